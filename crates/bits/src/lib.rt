@@ -1,0 +1,4 @@
+// placeholder
+pub fn same(x: u32) -> u32 {
+    x
+}

@@ -1,0 +1,70 @@
+-- Document 01's "Coding the planes": what is written. N is the length of the list of words, w the word size.
+use mathlib.Core.Bool.{Bool, true, false}
+use mathlib.Core.List.{List, [], _∷_, _++_, map}
+use Prim.Native.Nat.{ℕ, zero, suc, _+_, _-_}
+use lib.ListN.{take, drop}
+use Rattle.bits.specs.Stream.{bit}
+
+-- plane k: bit k of every word
+abbrev pub plane : ℕ → List ℕ → List Bool
+plane k ws = map (bit k) ws
+
+-- p planes, from plane w - 1 downward
+abbrev pub planesOf : ℕ → ℕ → List ℕ → List (List Bool)
+planesOf w zero ws = []
+planesOf w (suc p) ws = plane (w - 1) ws ∷ planesOf (w - 1) p ws
+
+-- the question of a test: is any bit a one?
+abbrev pub any : List Bool → Bool
+any [] = false
+any (true ∷ bs) = true
+any (false ∷ bs) = any bs
+
+-- a test's answer: a 0 ends the plane, a 1 is followed by the scan
+abbrev pub answer : Bool → List Bool → List Bool
+answer true scan = true ∷ scan
+answer false scan = false ∷ []
+
+-- the scan of the bits from place n on: they are written until a one has been, which another test follows;
+-- the bit at place N - 1, the last, is never written
+abbrev pub scan : List Bool → List Bool
+scan [] = []
+scan (b ∷ []) = []
+scan (true ∷ c ∷ cs) = true ∷ answer (any (c ∷ cs)) (scan (c ∷ cs))
+scan (false ∷ c ∷ cs) = false ∷ scan (c ∷ cs)
+
+-- the test of the bits from place n on; there is none where n is N
+abbrev pub test : List Bool → List Bool
+test [] = []
+test (b ∷ bs) = answer (any (b ∷ bs)) (scan (b ∷ bs))
+
+-- how far n moves: past each one that a scan has found
+abbrev pub found : Bool → ℕ → ℕ
+found true moves = moves
+found false moves = 0
+
+abbrev pub scanMoves : List Bool → ℕ
+scanMoves [] = 0
+scanMoves (b ∷ []) = 1
+scanMoves (true ∷ c ∷ cs) = suc (found (any (c ∷ cs)) (scanMoves (c ∷ cs)))
+scanMoves (false ∷ c ∷ cs) = suc (scanMoves (c ∷ cs))
+
+abbrev pub testMoves : List Bool → ℕ
+testMoves bs = found (any bs) (scanMoves bs)
+
+-- a plane: its n first bits as they are, then a test
+unfoldable pub planeCode : ℕ → List Bool → List Bool
+planeCode n bs = take n bs ++ test (drop n bs)
+
+-- the n that it hands to the next plane
+unfoldable pub planeNext : ℕ → List Bool → ℕ
+planeNext n bs = n + testMoves (drop n bs)
+
+-- planes one after the other; n carries over
+abbrev pub codeFrom : ℕ → List (List Bool) → List Bool
+codeFrom n [] = []
+codeFrom n (bs ∷ rest) = planeCode n bs ++ codeFrom (planeNext n bs) rest
+
+-- what "Coding the planes" writes of words of w bits in p planes, uncut and without a head
+unfoldable pub planesCode : ℕ → ℕ → List ℕ → List Bool
+planesCode w p ws = codeFrom 0 (planesOf w p ws)

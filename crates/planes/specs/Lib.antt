@@ -1,0 +1,3 @@
+-- The definitions that the contracts of `planes` cite.
+pub mod Coder
+pub mod Reader
