@@ -1,6 +1,6 @@
 -- Bytes as a stream of bits, and numbers in it, lowest bit first.
 use mathlib.Core.Path.{_≡_}
-use mathlib.Core.Bool.{Bool, true, false, not}
+use mathlib.Core.Bool.{Bool, true, false, _&&_, Bool·beq}
 use mathlib.Core.List.{List, [], _∷_, _++_}
 use Prim.Native.Nat.{ℕ, zero, suc, _+_, _-_, _*_, _/_, _%_, _^_}
 use lib.Dec.{eqb}
@@ -41,16 +41,8 @@ pub record Written (before after : List Bool) (at limit : ℕ) (code : List Bool
   pub moved : next ≡ at + length code
 
 -- whether two lists of bits are the same
-abbrev pub same : Bool → Bool → Bool
-same true b = b
-same false b = not b
-
-abbrev pub both : Bool → Bool → Bool
-both true b = b
-both false b = false
-
 abbrev pub sameBits : List Bool → List Bool → Bool
 sameBits [] [] = true
 sameBits [] (c ∷ cs) = false
 sameBits (b ∷ bs) [] = false
-sameBits (b ∷ bs) (c ∷ cs) = both (same b c) (sameBits bs cs)
+sameBits (b ∷ bs) (c ∷ cs) = Bool·beq b c && sameBits bs cs

@@ -1,5 +1,5 @@
 -- Document 01's "Coding the planes": what is written. N is the length of the list of words, w the word size.
-use mathlib.Core.Bool.{Bool, true, false}
+use mathlib.Core.Bool.{Bool, true, false, _||_, cond}
 use mathlib.Core.List.{List, [], _∷_, _++_, map}
 use Prim.Native.Nat.{ℕ, zero, suc, _+_, _-_}
 use lib.ListN.{take, drop}
@@ -17,13 +17,12 @@ planesOf w (suc p) ws = plane (w - 1) ws ∷ planesOf (w - 1) p ws
 -- the question of a test: is any bit a one?
 abbrev pub any : List Bool → Bool
 any [] = false
-any (true ∷ bs) = true
-any (false ∷ bs) = any bs
+any (b ∷ bs) = b || any bs
 
--- a test's answer: a 0 ends the plane, a 1 is followed by the scan
+-- a test's answer: a 0 ends the plane, a 1 is followed by a scan's code
 abbrev pub answer : Bool → List Bool → List Bool
-answer true scan = true ∷ scan
-answer false scan = false ∷ []
+answer true code = true ∷ code
+answer false code = false ∷ []
 
 -- the scan of the bits from place n on: they are written until a one has been, which another test follows;
 -- the bit at place N - 1, the last, is never written
@@ -38,19 +37,15 @@ abbrev pub test : List Bool → List Bool
 test [] = []
 test (b ∷ bs) = answer (any (b ∷ bs)) (scan (b ∷ bs))
 
--- how far n moves: past each one that a scan has found
-abbrev pub found : Bool → ℕ → ℕ
-found true moves = moves
-found false moves = 0
-
+-- how far n moves: past each one that a scan finds
 abbrev pub scanMoves : List Bool → ℕ
 scanMoves [] = 0
 scanMoves (b ∷ []) = 1
-scanMoves (true ∷ c ∷ cs) = suc (found (any (c ∷ cs)) (scanMoves (c ∷ cs)))
+scanMoves (true ∷ c ∷ cs) = suc (cond (any (c ∷ cs)) (scanMoves (c ∷ cs)) 0)
 scanMoves (false ∷ c ∷ cs) = suc (scanMoves (c ∷ cs))
 
 abbrev pub testMoves : List Bool → ℕ
-testMoves bs = found (any bs) (scanMoves bs)
+testMoves bs = cond (any bs) (scanMoves bs) 0
 
 -- a plane: its n first bits as they are, then a test
 unfoldable pub planeCode : ℕ → List Bool → List Bool
