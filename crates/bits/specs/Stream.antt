@@ -40,6 +40,10 @@ pub record Written (before after : List Bool) (at limit : ℕ) (code : List Bool
   pub bits : after ≡ write before at limit code
   pub moved : next ≡ at + length code
 
+-- byte b with the c bits from bit k on replaced by the lowest bits of v
+unfoldable pub withBits : ℕ → ℕ → ℕ → ℕ → ℕ
+withBits b k c v = b / 2 ^ (k + c) * 2 ^ (k + c) + v % 2 ^ c * 2 ^ k + b % 2 ^ k
+
 -- whether two lists of bits are the same
 abbrev pub sameBits : List Bool → List Bool → Bool
 sameBits [] [] = true

@@ -1,0 +1,103 @@
+-- Laws of the stream of a byte buffer. Assumes nothing.
+use mathlib.Core.Path.{_≡_, refl, sym, ap, ap₂, _∙_}
+use mathlib.Core.Bool.{Bool, false}
+use mathlib.Core.List.{List, [], _∷_, _++_}
+use Prim.Native.Nat.{ℕ, zero, suc, _+_, _-_, _*_, _/_, _%_, _^_, _≤_, _<_}
+use native.Mathlib.Nat.{zero-add, suc-add}
+use native.Mathlib.Omega.{arith}
+use lib.ListN.{length, getD, set, take, drop, length-append, List·getD-append}
+use lib.Seq.{sets, set-append-left, length-sets, getD-append-add, take-append-seam, drop-append-seam, slice, slice-cons, slice-empty}
+use Rattle.bits.specs.Stream.{bit, digit, numberBits, numberOf, bitsOf, withBits}
+use Rattle.bits.proofs.NumberLaws.{length-numberBits, getD-numberBits, number-back, withBits-bits}
+
+pub length-bitsOf : (l : List ℕ) → length (bitsOf l) ≡ 8 * length l
+length-bitsOf [] = refl
+length-bitsOf (b ∷ bs) = omega (arith, length-append (numberBits 8 b) (bitsOf bs), length-numberBits 8 b, length-bitsOf bs)
+
+-- a place of the stream past the first byte
+past : (b i k : ℕ) → 8 * suc i + k ≡ length (numberBits 8 b) + (8 * i + k)
+past b i k = omega (arith, length-numberBits 8 b)
+
+bitsOf-at : (l : List ℕ) (i k : ℕ) → i < length l → k < 8 → getD (bitsOf l) (8 * i + k) false ≡ bit k (getD l i 0)
+bitsOf-at [] i k hi hk = absurd (omega arith)
+bitsOf-at (b ∷ bs) zero k hi hk =
+    let h : k < length (numberBits 8 b) = rw (length-numberBits 8 b) hk in
+    rw (zero-add, List·getD-append (numberBits 8 b) (bitsOf bs) false k h, getD-numberBits 8 b k hk)
+bitsOf-at (b ∷ bs) (suc i) k hi hk =
+    rw (past b i k, getD-append-add (numberBits 8 b) (bitsOf bs) (8 * i + k) false) (bitsOf-at bs i k (omega arith) hk)
+
+-- document 01: stream bit t is bit t mod 8 of byte t / 8
+pub stream-bit : (l : List ℕ) (t : ℕ) → t < 8 * length l → getD (bitsOf l) t false ≡ bit (t % 8) (getD l (t / 8) 0)
+stream-bit l t h =
+    let e : t ≡ 8 * (t / 8) + t % 8 = omega arith in
+    ap (λ (n : ℕ). getD (bitsOf l) n false) e ∙ bitsOf-at l (t / 8) (t % 8) (omega arith) (omega arith)
+
+-- a run of stores in the first part of a list, and after it
+sets-left : (xs ys : List Bool) (i : ℕ) (vs : List Bool) → i + length vs ≤ length xs → sets (xs ++ ys) i vs ≡ sets xs i vs ++ ys
+sets-left xs ys i [] h = refl
+sets-left xs ys i (v ∷ vs) h =
+    rw (set-append-left xs ys i v (omega arith))
+    (sets-left (set xs i v) ys (suc i) vs (omega (arith, length-sets xs i (v ∷ []))))
+
+sets-right : (xs ys : List Bool) (i : ℕ) (vs : List Bool) → sets (xs ++ ys) (length xs + i) vs ≡ xs ++ sets ys i vs
+sets-right [] ys i vs = rw zero-add
+sets-right (x ∷ xs) ys i vs = rw (suc-add, sets-cons x (xs ++ ys) (length xs + i) vs, sets-right xs ys i vs)
+  where
+    sets-cons : (x : Bool) (l : List Bool) (i : ℕ) (vs : List Bool) → sets (x ∷ l) (suc i) vs ≡ x ∷ sets l i vs
+    sets-cons x l i [] = refl
+    sets-cons x l i (v ∷ vs) = sets-cons x (set l i v) (suc i) vs
+
+-- a byte with some of its bits replaced, seen in the stream
+withBits-stream : (l : List ℕ) (i k c v : ℕ) → i < length l → k + c ≤ 8
+    → bitsOf (set l i (withBits (getD l i 0) k c v)) ≡ sets (bitsOf l) (8 * i + k) (numberBits c v)
+withBits-stream [] i k c v hi hk = absurd (omega arith)
+withBits-stream (b ∷ bs) zero k c v hi hk =
+    let e : k + (c + (8 - (k + c))) ≡ 8 = omega arith in
+    let w = rw e at (withBits-bits b k c v (8 - (k + c))) in
+    rw zero-add (ap {B = List Bool} (λ l. l ++ bitsOf bs) w ∙ sym (sets-left (numberBits 8 b) (bitsOf bs) k (numberBits c v) (omega (arith, length-numberBits 8 b, length-numberBits c v))))
+withBits-stream (b ∷ bs) (suc i) k c v hi hk =
+    rw (past b i k, sets-right (numberBits 8 b) (bitsOf bs) (8 * i + k) (numberBits c v), withBits-stream bs i k c v (omega arith) hk)
+
+-- the same at stream bit `at`
+pub stored : (l : List ℕ) (at c v : ℕ) → at < 8 * length l → at % 8 + c ≤ 8
+    → bitsOf (set l (at / 8) (withBits (getD l (at / 8) 0) (at % 8) c v)) ≡ sets (bitsOf l) at (numberBits c v)
+stored l at c v h k =
+    let e : 8 * (at / 8) + at % 8 ≡ at = omega arith in
+    withBits-stream l (at / 8) (at % 8) c v (omega arith) k ∙ ap (λ (n : ℕ). sets (bitsOf l) n (numberBits c v)) e
+
+-- bytes are determined by their bits
+pub bytes-back : (l m : List ℕ) → ((i : ℕ) → getD l i 0 < 2 ^ 8) → ((i : ℕ) → getD m i 0 < 2 ^ 8) → length l ≡ length m → bitsOf l ≡ bitsOf m → l ≡ m
+bytes-back [] [] hl hm n e = refl
+bytes-back [] (b ∷ bs) hl hm n e = absurd (omega arith)
+bytes-back (a ∷ bs₁) [] hl hm n e = absurd (omega arith)
+bytes-back (a ∷ bs₁) (b ∷ bs) hl hm n e =
+    ap₂ {C = List ℕ} (λ x l. x ∷ l) first
+    (bytes-back bs₁ bs (λ i. hl (suc i)) (λ i. hm (suc i)) (omega arith) others)
+  where
+    len : length (numberBits 8 a) ≡ length (numberBits 8 b)
+    len = length-numberBits 8 a ∙ sym (length-numberBits 8 b)
+
+    heads : numberBits 8 a ≡ numberBits 8 b
+    heads = sym (take-append-seam (numberBits 8 a) (bitsOf bs₁)) ∙ ap₂ {C = List Bool} take len e ∙ take-append-seam (numberBits 8 b) (bitsOf bs)
+
+    others : bitsOf bs₁ ≡ bitsOf bs
+    others = sym (drop-append-seam (numberBits 8 a) (bitsOf bs₁)) ∙ ap₂ {C = List Bool} drop len e ∙ drop-append-seam (numberBits 8 b) (bitsOf bs)
+
+    first : a ≡ b
+    first = sym (number-back 8 a (hl 0)) ∙ ap numberOf heads ∙ number-back 8 b (hm 0)
+
+-- the bits from one place on, as code by an index sees them
+pub slice-next : (d : List Bool) (at i end : ℕ) → at + i < end → end ≤ length d → slice (at + i) end d ≡ getD d (at + i) false ∷ slice (at + (i + 1)) end d
+slice-next d at i end h k =
+    let e : at + (i + 1) ≡ suc (at + i) = omega arith in
+    rw e (slice-cons (at + i) end d false h k)
+
+pub slice-none : (d : List Bool) (at end : ℕ) → at ≡ end → slice at end d ≡ []
+slice-none d at end e = rw e (slice-empty end d)
+
+-- a number, read from its highest bit down
+pub number-next : (d : List Bool) (at i end n : ℕ) → 0 < i → at + i ≤ end → end ≤ length d → n ≡ numberOf (slice (at + i) end d)
+    → digit (getD d (at + (i - 1)) false) + 2 * n ≡ numberOf (slice (at + (i - 1)) end d)
+number-next d at i end n p h k e =
+    let f : i - 1 + 1 ≡ i = omega arith in
+    rw (slice-next d at (i - 1) end (omega arith) k, f, e)

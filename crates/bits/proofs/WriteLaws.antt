@@ -1,0 +1,105 @@
+-- Laws of writing: what it does to the stream, and that all other bits stay. Assumes nothing.
+use mathlib.Core.Path.{_≡_, refl, sym, ap, _∙_}
+use mathlib.Core.Bool.{Bool}
+use mathlib.Core.List.{List, [], _∷_, _++_}
+use Prim.Native.Nat.{ℕ, suc, _+_, _-_, _/_, _^_, _≤_, _<_, min}
+use native.Mathlib.Nat.{add-zero}
+use native.Mathlib.Decide.{decLe}
+use native.Mathlib.Omega.{arith}
+use lib.ListN.{length, getD, set, take, length-append, length-take}
+use lib.Seq.{sets, length-sets, take-nil, take-all, getD-set-other}
+use Rattle.bits.specs.Stream.{numberBits, write, Written}
+use Rattle.bits.proofs.NumberLaws.{length-numberBits, numberBits-add, numberBits-take}
+
+pub length-write : (d : List Bool) (at limit : ℕ) (code : List Bool) → length (write d at limit code) ≡ length d
+unfolding write
+length-write d at limit code = length-sets d at (take (limit - at) code)
+
+-- at the limit or past it nothing is stored
+pub write-past : (d : List Bool) (at limit : ℕ) (code : List Bool) → limit ≤ at → write d at limit code ≡ d
+unfolding write
+write-past d at limit code h = let e : limit - at ≡ 0 = omega arith in rw e
+
+pub write-none : (d : List Bool) (at limit : ℕ) → write d at limit [] ≡ d
+unfolding write
+write-none d at limit = rw take-nil
+
+-- below the limit the first bit is stored, then the rest
+pub write-first : (d : List Bool) (at limit : ℕ) (b : Bool) (code : List Bool) → at < limit → write d at limit (b ∷ code) ≡ write (set d at b) (suc at) limit code
+unfolding write
+write-first d at limit b code h = let e : limit - at ≡ suc (limit - suc at) = omega arith in rw e
+
+-- a code below the limit is stored whole
+pub write-whole : (d : List Bool) (at limit : ℕ) (code : List Bool) → at + length code ≤ limit → write d at limit code ≡ sets d at code
+unfolding write
+write-whole d at limit code h = rw (take-all (limit - at) code (omega arith))
+
+-- a code written in two parts
+pub write-append : (d : List Bool) (at limit : ℕ) (xs ys : List Bool)
+    → write d at limit (xs ++ ys) ≡ write (write d at limit xs) (at + length xs) limit ys
+write-append d at limit [] ys = rw (add-zero at, write-none d at limit)
+write-append d at limit (x ∷ xs) ys = go (decLe (suc at) limit) (write-append (set d at x) (suc at) limit xs ys)
+  where
+    go : Dec (at < limit) → write (set d at x) (suc at) limit (xs ++ ys) ≡ write (write (set d at x) (suc at) limit xs) (suc at + length xs) limit ys
+        → write d at limit (x ∷ (xs ++ ys)) ≡ write (write d at limit (x ∷ xs)) (at + suc (length xs)) limit ys
+    go (yes h) r =
+        let e : at + suc (length xs) ≡ suc at + length xs = omega arith in
+        rw (write-first d at limit x (xs ++ ys) h, write-first d at limit x xs h, e) r
+    go (no h) r =
+        rw (write-past d at limit (x ∷ (xs ++ ys)) (omega arith), write-past d at limit (x ∷ xs) (omega arith), write-past d (at + suc (length xs)) limit ys (omega arith))
+
+-- a run of stores in two parts
+sets-append : (d : List Bool) (at : ℕ) (xs ys : List Bool) → sets d at (xs ++ ys) ≡ sets (sets d at xs) (at + length xs) ys
+sets-append d at [] ys = rw (add-zero at)
+sets-append d at (x ∷ xs) ys =
+    let e : at + suc (length xs) ≡ suc at + length xs = omega arith in
+    rw e (sets-append (set d at x) (suc at) xs ys)
+
+-- a number's bits below the limit, stored in two parts
+pub write-two : (d : List Bool) (at limit v count room first : ℕ) → room ≡ min count (limit - at) → first ≤ room
+    → sets (sets d at (numberBits first v)) (at + first) (numberBits (room - first) (v / 2 ^ first)) ≡ write d at limit (numberBits count v)
+unfolding write
+write-two d at limit v count room first e h =
+    let l : at + first ≡ at + length (numberBits first v) = ap (λ (n : ℕ). at + n) (sym (length-numberBits first v)) in
+    let f : first + (room - first) ≡ room = omega arith in
+    rw (l, ← sets-append d at (numberBits first v) (numberBits (room - first) (v / 2 ^ first)), ← numberBits-add first (room - first) v, f, e)
+    (ap (sets d at) (sym (numberBits-take (limit - at) count v)))
+
+-- bits before the place, at the limit and after it, and past the code stay as they are
+sets-other : (d : List Bool) (at : ℕ) (vs : List Bool) (i : ℕ) (z : Bool) → ((k : ℕ) → k < length vs → i ≡ at + k → ⊥) → getD (sets d at vs) i z ≡ getD d i z
+sets-other d at [] i z h = refl
+sets-other d at (v ∷ vs) i z h =
+    sets-other (set d at v) (suc at) vs i z (λ k l e. h (suc k) (omega arith) (omega arith))
+    ∙ getD-set-other d at i v z (λ e. h 0 (omega arith) (omega arith))
+
+module _ (d : List Bool) (at limit : ℕ) (code : List Bool) (i : ℕ) (z : Bool) where
+  pub write-before : i < at → getD (write d at limit code) i z ≡ getD d i z
+  unfolding write
+  write-before h = sets-other d at (take (limit - at) code) i z (λ k l e. omega arith)
+
+  pub write-after : at + length code ≤ i → getD (write d at limit code) i z ≡ getD d i z
+  unfolding write
+  write-after h = sets-other d at (take (limit - at) code) i z (λ k l e. omega (arith, length-take (limit - at) code))
+
+  pub write-beyond : limit ≤ i → getD (write d at limit code) i z ≡ getD d i z
+  unfolding write
+  write-beyond h = sets-other d at (take (limit - at) code) i z (λ k l e. omega (arith, length-take (limit - at) code))
+
+-- what one part wrote, and then another
+pub written-none : (d : List Bool) (at limit : ℕ) → Written d d at limit [] at
+written-none d at limit = record { bits = sym (write-none d at limit); moved = omega arith }
+
+pub written-append : {before mid after xs ys : List Bool} {at limit at₁ at₂ : ℕ}
+    → Written before mid at limit xs at₁ → Written mid after at₁ limit ys at₂ → Written before after at limit (xs ++ ys) at₂
+written-append {before} {xs = xs} {ys} {at} {limit} p q =
+    record {
+      bits = rw (write-append before at limit xs ys, ← (p .bits), ← (p .moved)) (q .bits);
+      moved = omega (arith, p .moved, q .moved, length-append xs ys);
+    }
+
+-- a number from here on: its first k bits are written, and then the others
+pub number-more : {d d₁ : List Bool} (at limit at₁ k left rest : ℕ) → k ≤ left → Written d d₁ at limit (numberBits k rest) at₁
+    → write d₁ at₁ limit (numberBits (left - k) (rest / 2 ^ k)) ≡ write d at limit (numberBits left rest)
+number-more {d} at limit at₁ k left rest h r =
+    let e : k + (left - k) ≡ left = omega arith in
+    rw (r .bits, r .moved, ← write-append d at limit (numberBits k rest) (numberBits (left - k) (rest / 2 ^ k)), ← numberBits-add k (left - k) rest, e)
