@@ -19,6 +19,11 @@ abbrev pub any : List Bool → Bool
 any [] = false
 any (b ∷ bs) = b || any bs
 
+-- the place after the last one; 0 if there is none
+abbrev pub onesEnd : List Bool → ℕ
+onesEnd [] = 0
+onesEnd (b ∷ bs) = cond (any (b ∷ bs)) (suc (onesEnd bs)) 0
+
 -- a test's answer: a 0 ends the plane, a 1 is followed by a scan's code
 abbrev pub answer : Bool → List Bool → List Bool
 answer true code = true ∷ code

@@ -1,0 +1,8 @@
+-- The laws of the plane coder and reader.
+pub mod Bound
+pub mod Tight
+pub mod End
+pub mod Places
+pub mod Words
+pub mod Back
+pub mod Range

@@ -1,0 +1,67 @@
+-- What is read of any bits whatever: N words of w bits.
+use mathlib.Core.Path.{_≡_, refl, ap, _∙_}
+use mathlib.Core.Bool.{Bool, true, false}
+use mathlib.Core.List.{List, [], _∷_}
+use Prim.Native.Nat.{ℕ, zero, suc, _+_, _-_, _*_, _^_, _≤_}
+use native.Mathlib.Omega.{arith}
+use native.Mathlib.Nat.{pow-suc, sub-zero}
+use lib.Pow.{pow-pos}
+use lib.ListN.{length, replicate, length-replicate}
+use Rattle.bits.specs.Stream.{digit}
+use Rattle.planes.specs.Reader.{readPlane, readNext, addPlane, readFrom, readWords}
+use Rattle.planes.proofs.Words.{Below}
+
+-- the number of words
+add-length : (k : ℕ) (bs : List Bool) (ws : List ℕ) → length (addPlane k bs ws) ≡ length ws
+add-length k [] ws = refl
+add-length k (b ∷ bs) [] = refl
+add-length k (b ∷ bs) (x ∷ ws) = ap suc (add-length k bs ws)
+
+pub from-length : (w p n : ℕ) (ws : List ℕ) (s : List Bool) → length (readFrom w p n ws s) ≡ length ws
+from-length w zero n ws s = refl
+from-length w (suc p) n ws s =
+    let g = readPlane (length ws) n s in
+    from-length (w - 1) p (readNext (length ws) n s) (addPlane (w - 1) (g .bits) ws) (g .rest) ∙ add-length (w - 1) (g .bits) ws
+
+pub read-length : (w N p : ℕ) (s : List Bool) → length (readWords w N p s) ≡ N
+unfolding readWords
+read-length w N p s = from-length w p 0 (replicate N 0) s ∙ length-replicate N 0
+
+-- room for the planes below m, which are not read yet, in words of w bits
+abbrev Room : ℕ → ℕ → List ℕ → Type 0
+Room w m [] = Unit {0}
+Room w m (x ∷ ws) = (x + 2 ^ m ≤ 2 ^ w) × Room w m ws
+
+room-none : (w N : ℕ) → Room w w (replicate N 0)
+room-none w zero = tt
+room-none w (suc N) = (omega arith, room-none w N)
+
+room-less : (w m : ℕ) (ws : List ℕ) → Room w (suc m) ws → Room w m ws
+room-less w m [] r = tt
+room-less w m (x ∷ ws) r = (omega (arith, r .0, pow-suc 2 m), room-less w m ws (r .1))
+
+digit-le : (b : Bool) (m : ℕ) → digit b * 2 ^ m ≤ 2 ^ m
+digit-le true m = omega arith
+digit-le false m = omega arith
+
+room-add : (w m : ℕ) (bs : List Bool) (ws : List ℕ) → Room w (suc m) ws → Room w m (addPlane m bs ws)
+room-add w m [] ws r = room-less w m ws r
+room-add w m (b ∷ bs) [] r = tt
+room-add w m (b ∷ bs) (x ∷ ws) r = (omega (arith, r .0, pow-suc 2 m, digit-le b m), room-add w m bs ws (r .1))
+
+room-below : (w m : ℕ) (ws : List ℕ) → Room w m ws → Below w ws
+room-below w m [] r = tt
+room-below w m (x ∷ ws) r = (omega (arith, r .0, pow-pos m), room-below w m ws (r .1))
+
+from-room : (w v p n : ℕ) (ws : List ℕ) (s : List Bool) → p ≤ v → Room w v ws → Room w (v - p) (readFrom v p n ws s)
+from-room w v zero n ws s h r = rw sub-zero r
+from-room w zero (suc p) n ws s h r = absurd (omega arith)
+from-room w (suc v) (suc p) n ws s h r =
+    let e : suc v - 1 ≡ v = omega arith in
+    let f : suc v - suc p ≡ v - p = omega arith in
+    let g = readPlane (length ws) n s in
+    rw (e, f) (from-room w v p (readNext (length ws) n s) (addPlane v (g .bits) ws) (g .rest) (omega arith) (room-add w v (g .bits) ws r))
+
+pub read-below : (w N p : ℕ) (s : List Bool) → p ≤ w → Below w (readWords w N p s)
+unfolding readWords
+read-below w N p s h = room-below w (w - p) (readFrom w p 0 (replicate N 0) s) (from-room w w p 0 (replicate N 0) s h (room-none w N))
