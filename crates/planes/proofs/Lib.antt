@@ -6,3 +6,4 @@ pub mod Places
 pub mod Words
 pub mod Back
 pub mod Range
+pub mod Reading

@@ -2,17 +2,17 @@
 use mathlib.Core.Path.{_≡_, refl, ap, _∙_}
 use mathlib.Core.Bool.{Bool, true, false}
 use mathlib.Core.List.{List, [], _∷_}
-use Prim.Native.Nat.{ℕ, zero, suc, _+_, _-_, _*_, _^_, _≤_}
+use Prim.Native.Nat.{ℕ, zero, suc, _-_, _*_, _^_, _≤_}
 use native.Mathlib.Omega.{arith}
 use native.Mathlib.Nat.{pow-suc, sub-zero}
 use lib.Pow.{pow-pos}
 use lib.ListN.{length, replicate, length-replicate}
 use Rattle.bits.specs.Stream.{digit}
-use Rattle.planes.specs.Reader.{readPlane, readNext, addPlane, readFrom, readWords}
+use Rattle.planes.specs.Reader.{readPlane, readNext, addPlane, readFrom, readWords, Room}
 use Rattle.planes.proofs.Words.{Below}
 
 -- the number of words
-add-length : (k : ℕ) (bs : List Bool) (ws : List ℕ) → length (addPlane k bs ws) ≡ length ws
+pub add-length : (k : ℕ) (bs : List Bool) (ws : List ℕ) → length (addPlane k bs ws) ≡ length ws
 add-length k [] ws = refl
 add-length k (b ∷ bs) [] = refl
 add-length k (b ∷ bs) (x ∷ ws) = ap suc (add-length k bs ws)
@@ -27,12 +27,7 @@ pub read-length : (w N p : ℕ) (s : List Bool) → length (readWords w N p s) �
 unfolding readWords
 read-length w N p s = from-length w p 0 (replicate N 0) s ∙ length-replicate N 0
 
--- room for the planes below m, which are not read yet, in words of w bits
-abbrev Room : ℕ → ℕ → List ℕ → Type 0
-Room w m [] = Unit {0}
-Room w m (x ∷ ws) = (x + 2 ^ m ≤ 2 ^ w) × Room w m ws
-
-room-none : (w N : ℕ) → Room w w (replicate N 0)
+pub room-none : (w N : ℕ) → Room w w (replicate N 0)
 room-none w zero = tt
 room-none w (suc N) = (omega arith, room-none w N)
 
@@ -44,7 +39,7 @@ digit-le : (b : Bool) (m : ℕ) → digit b * 2 ^ m ≤ 2 ^ m
 digit-le true m = omega arith
 digit-le false m = omega arith
 
-room-add : (w m : ℕ) (bs : List Bool) (ws : List ℕ) → Room w (suc m) ws → Room w m (addPlane m bs ws)
+pub room-add : (w m : ℕ) (bs : List Bool) (ws : List ℕ) → Room w (suc m) ws → Room w m (addPlane m bs ws)
 room-add w m [] ws r = room-less w m ws r
 room-add w m (b ∷ bs) [] r = tt
 room-add w m (b ∷ bs) (x ∷ ws) r = (omega (arith, r .0, pow-suc 2 m, digit-le b m), room-add w m bs ws (r .1))

@@ -1,8 +1,10 @@
 -- Document 01's "Coding the planes": what a reader makes of the bits within its budget.
+use mathlib.Core.Path.{_≡_}
 use mathlib.Core.Bool.{Bool, true, false}
 use mathlib.Core.List.{List, [], _∷_, _++_}
-use Prim.Native.Nat.{ℕ, zero, suc, _+_, _-_, _*_, _^_}
+use Prim.Native.Nat.{ℕ, zero, suc, _+_, _-_, _*_, _^_, _≤_}
 use lib.ListN.{length, take, drop, replicate}
+use lib.Seq.{slice}
 use Rattle.bits.specs.Stream.{digit}
 
 -- what a part of a plane gives: the bits of the places that n moves past (every later one is 0), and the bits left of the budget
@@ -59,3 +61,26 @@ readFrom w (suc p) n ws s =
 -- the N words of w bits that p planes read from the bits s give
 unfoldable pub readWords : ℕ → ℕ → ℕ → List Bool → List ℕ
 readWords w N p s = readFrom w p 0 (replicate N 0) s
+
+-- the words with bits of plane k added from place n on
+unfoldable pub addAt : ℕ → ℕ → List Bool → List ℕ → List ℕ
+addAt n k bs ws = take n ws ++ addPlane k bs (drop n ws)
+
+-- every word has room below 2 ^ w for the planes below m, which are not read yet
+abbrev pub Room : ℕ → ℕ → List ℕ → Type 0
+Room w m [] = Unit {0}
+Room w m (x ∷ ws) = (x + 2 ^ m ≤ 2 ^ w) × Room w m ws
+
+-- what reading a test or a scan at place n of plane k does: g's bits go into the words, and g's rest is left of the stream d up to `end`
+pub record PartRead (ws ws′ : List ℕ) (k n : ℕ) (d : List Bool) (end : ℕ) (g : Got) (at′ n′ : ℕ) : Type 0 where
+  pub words : ws′ ≡ addAt n k (g .bits) ws
+  pub moved : n′ ≡ n + length (g .bits)
+  pub left : slice at′ end d ≡ g .rest
+  pub within : at′ ≤ end
+
+-- what reading plane k at n does, from place `at` of the stream d on
+pub record PlaneRead (ws ws′ : List ℕ) (k n : ℕ) (d : List Bool) (at end at′ n′ : ℕ) : Type 0 where
+  pub words : ws′ ≡ addPlane k (readPlane (length ws) n (slice at end d) .bits) ws
+  pub moved : n′ ≡ readNext (length ws) n (slice at end d)
+  pub left : slice at′ end d ≡ readPlane (length ws) n (slice at end d) .rest
+  pub within : at′ ≤ end

@@ -1,4 +1,2 @@
-// placeholder
-pub fn same(x: u32) -> u32 {
-    x
-}
+// The bit-plane coder and reader of blocks of 32-bit words.
+pub mod reader;

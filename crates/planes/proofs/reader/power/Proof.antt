@@ -1,0 +1,18 @@
+-- A one moved up by fewer than 32 bits stays a u32. Assumes nothing.
+use lib.Pow.{pow-lt}
+use native.Mathlib.Nat.{one-mul, mod-eq-of-lt}
+use Prim.Native.Nat.{_^_, _<_}
+use borrow.Author.Needs.{needs}
+use Rattle.planes.proofs.reader.power.Statement.{statement}
+use Rattle.planes.proofs.reader.power.Tie as tie
+
+shl-result : tie.Need-shl-result
+shl-result c = search needs
+
+returns : tie.Need-returns
+returns c =
+    let h : 2 ^ (c .args .k) < 2 ^ 32 = pow-lt (c .pre) in
+    rw (one-mul, mod-eq-of-lt)
+
+pub power-spec : {M : Type 1} → statement M
+power-spec = tie.close (tie.spec shl-result returns)
