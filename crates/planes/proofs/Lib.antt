@@ -3,6 +3,7 @@ pub mod Bound
 pub mod Tight
 pub mod End
 pub mod Places
+pub mod Steps
 pub mod Words
 pub mod Back
 pub mod Range

@@ -1,3 +1,4 @@
 -- The definitions that the contracts of `planes` cite.
 pub mod Coder
 pub mod Reader
+pub mod Advanced

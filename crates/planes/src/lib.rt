@@ -1,2 +1,3 @@
-// The bit-plane coder and reader of blocks of 32-bit words.
+// The bit planes of blocks of 32-bit words, coded and read.
 pub mod reader;
+pub mod writer;

@@ -1,0 +1,142 @@
+// The coder: writes the planes of words to a stream of bits, below a limit.
+ghost use mathlib.Core.Path.{_≡_};
+ghost use Prim.Native.Nat.{_+_, _-_, _*_, _^_, _≤_, _<_};
+ghost use lib.ListN.{length, getD, take, drop};
+ghost use Rattle.bits.specs.Stream.{bit, bitsOf, Written};
+ghost use Rattle.planes.specs.Coder.{plane, onesEnd, scan, test, scanMoves, planeCode, planeNext, planesCode};
+ghost use Rattle.planes.specs.Advanced.{Advanced};
+use bits::Cursor;
+
+// Where the coder stands: in the stream, and in the plane (document 01's n).
+pub struct Coder {
+    pub out: Cursor,
+    pub n: usize,
+}
+
+// What the coder did.
+pub struct Coded {
+    pub out: Cursor,
+}
+
+// Bit k of word i.
+fn bit_at(words: &[u32], k: u32, i: usize) -> bool
+    requires { ⌜ (k < 32) × (i < length (now words)) ⌝ }
+    ensures { λ r. ⌜ r ≡ bit k (getD (now (words .entry)) i 0) ⌝ }
+{
+    (words[i] >> k) % 2 == 1
+}
+
+// The place after the last one of plane k.
+fn ones_end(words: &[u32], k: u32) -> usize
+    requires { ⌜ k < 32 ⌝ }
+    ensures { λ r. ⌜ r ≡ onesEnd (plane k (now (words .entry))) ⌝ }
+{
+    let mut i = words.len();
+    while 0 < i {
+        if bit_at(words, k, i - 1) {
+            return i;
+        }
+        i -= 1;
+    }
+    0
+}
+
+// The test at place n: is any bit from there on a one? A 1 is followed by a scan.
+fn test(
+    words: &[u32],
+    k: u32,
+    end: usize,
+    n: usize,
+    buf: &mut [u8],
+    out: Cursor,
+    limit: usize,
+) -> Coder
+    requires { ⌜ (k < 32) × (n ≤ length (now words)) × (end ≡ onesEnd (plane k (now words))) × (limit ≤ 8 * length (now buf))
+        × (out .at + 2 * (length (now words) - n) < 2 ^ 32) ⌝ }
+    ensures { λ r. ⌜ Advanced (bitsOf (now (buf .entry))) (bitsOf (now (buf .exit))) (out .at) limit
+        (test (drop n (plane k (now (words .entry))))) (planeNext n (plane k (now (words .entry)))) (r .out .at) (r .n) ⌝ }
+{
+    if n < words.len() {
+        if n < end {
+            let next = bits::put(buf, out, limit, true);
+            scan(words, k, end, n, buf, next, limit)
+        } else {
+            let next = bits::put(buf, out, limit, false);
+            Coder { out: next, n }
+        }
+    } else {
+        Coder { out, n }
+    }
+}
+
+// The scan from place n: bits are written until a one has been, then comes a test; the bit at the last place is never written.
+fn scan(
+    words: &[u32],
+    k: u32,
+    end: usize,
+    n: usize,
+    buf: &mut [u8],
+    out: Cursor,
+    limit: usize,
+) -> Coder
+    requires { ⌜ (k < 32) × (n < length (now words)) × (end ≡ onesEnd (plane k (now words))) × (limit ≤ 8 * length (now buf))
+        × (out .at + 2 * (length (now words) - n) < 2 ^ 32 + 1) ⌝ }
+    ensures { λ r. ⌜ Advanced (bitsOf (now (buf .entry))) (bitsOf (now (buf .exit))) (out .at) limit
+        (scan (drop n (plane k (now (words .entry))))) (n + scanMoves (drop n (plane k (now (words .entry))))) (r .out .at) (r .n) ⌝ }
+{
+    let past = n + 1;
+    if past < words.len() {
+        let b = bit_at(words, k, n);
+        let next = bits::put(buf, out, limit, b);
+        if b {
+            test(words, k, end, past, buf, next, limit)
+        } else {
+            scan(words, k, end, past, buf, next, limit)
+        }
+    } else {
+        Coder { out, n: past }
+    }
+}
+
+// The n first bits of plane k, as they are.
+fn verbatim(words: &[u32], k: u32, n: usize, buf: &mut [u8], out: Cursor, limit: usize) -> Cursor
+    requires { ⌜ (k < 32) × (n ≤ length (now words)) × (limit ≤ 8 * length (now buf)) × (out .at + n < 2 ^ 32) ⌝ }
+    ensures { λ r. ⌜ Written (bitsOf (now (buf .entry))) (bitsOf (now (buf .exit))) (out .at) limit (take n (plane k (now (words .entry)))) (r .at) ⌝ }
+{
+    let mut next = out;
+    let mut i = 0;
+    while i < n {
+        next = bits::put(buf, next, limit, bit_at(words, k, i));
+        i += 1;
+    }
+    next
+}
+
+// Plane k: its n first bits as they are, then a test.
+fn put_plane(words: &[u32], k: u32, n: usize, buf: &mut [u8], out: Cursor, limit: usize) -> Coder
+    requires { ⌜ (k < 32) × (n ≤ length (now words)) × (limit ≤ 8 * length (now buf)) × (out .at + 2 * length (now words) < 2 ^ 32) ⌝ }
+    ensures { λ r. ⌜ Advanced (bitsOf (now (buf .entry))) (bitsOf (now (buf .exit))) (out .at) limit
+        (planeCode n (plane k (now (words .entry)))) (planeNext n (plane k (now (words .entry)))) (r .out .at) (r .n) ⌝ }
+{
+    let end = ones_end(words, k);
+    let next = verbatim(words, k, n, buf, out, limit);
+    test(words, k, end, n, buf, next, limit)
+}
+
+// The planes from the top one downward, p of them.
+pub fn put_planes(words: &[u32], p: u32, buf: &mut [u8], out: Cursor, limit: usize) -> Coded
+    requires { ⌜ (p ≤ 32) × (length (now words) ≤ 256) × (limit ≤ 8 * length (now buf)) × (out .at < 2 ^ 31) ⌝ }
+    ensures { λ r. ⌜ Written (bitsOf (now (buf .entry))) (bitsOf (now (buf .exit))) (out .at) limit (planesCode 32 p (now (words .entry))) (r .out .at) ⌝ }
+{
+    let lowest = 32 - p;
+    let mut next = out;
+    let mut n = 0;
+    let mut k: u32 = 32;
+    while lowest < k {
+        k -= 1;
+        let c = put_plane(words, k, n, buf, next, limit);
+        next = c.out;
+        n = c.n;
+    }
+    Coded { out: next }
+}
