@@ -7,7 +7,7 @@ use native.Mathlib.Omega.{arith}
 use native.Mathlib.Nat.{mul-suc}
 use lib.ListN.{length, take, drop, length-append, length-drop, length-map}
 use lib.Seq.{length-take-le}
-use Rattle.planes.specs.Coder.{planesOf, any, answer, scan, test, scanMoves, testMoves, planeCode, planeNext, codeFrom, planesCode}
+use Rattle.planes.specs.Coder.{planesOf, any, answer, scan, test, scanMoves, testMoves, planeCode, planeNext, codeFrom, planesCode, mostBits}
 
 -- a scan with l places after its own writes at most 2 l bits, less the places that it leaves of these
 pub scan-bound : (b : Bool) (bs : List Bool)
@@ -34,7 +34,7 @@ test-bound (b ∷ bs) = go (any (b ∷ bs)) (scan-bound b bs)
     go true h = omega arith
     go false h = omega arith
 
--- a plane at n: what it writes, with what is left of N - 1 after it, is at most N more than what was left before it; and n stays at most N
+-- a plane at n: what it writes, with what is left of N - 1 after it, is at most N more than what was left before it
 pub plane-bound : (N n : ℕ) (bs : List Bool) → length bs ≡ N → n ≤ N
     → (length (planeCode n bs) + (N - suc (planeNext n bs)) ≤ N + (N - suc n)) × (planeNext n bs ≤ N)
 unfolding planeCode planeNext
@@ -42,6 +42,10 @@ plane-bound N n bs e h =
     let t : length (take n bs) ≡ n = length-take-le n bs (omega arith) in
     let d : n + length (drop n bs) ≡ N = omega (arith, length-drop n bs) in
     omega (arith, length-append (take n bs) (test (drop n bs)), test-bound (drop n bs))
+
+-- n stays at most N
+pub next-bound : (n : ℕ) (bs : List Bool) → n ≤ length bs → planeNext n bs ≤ length bs
+next-bound n bs h = plane-bound (length bs) n bs refl h .1
 
 -- planes of N places each
 abbrev pub Wide : ℕ → List (List Bool) → Type 0
@@ -66,7 +70,7 @@ planesOf-length w (suc p) ws = ap suc (planesOf-length (w - 1) p ws)
 
 -- N words coded to p planes take at most N x p + N - 1 bits
 pub bound : (w p : ℕ) (ws : List ℕ) → 1 ≤ length ws
-    → length (planesCode w p ws) ≤ length ws * p + length ws - 1
+    → length (planesCode w p ws) ≤ mostBits (length ws) p
 unfolding planesCode
 bound w p ws h =
     let b = code-bound (length ws) (planesOf w p ws) 0 (planesOf-wide w p ws) (omega arith) in

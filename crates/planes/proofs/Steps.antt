@@ -26,7 +26,7 @@ pub advanced-append : {d d₁ d₂ xs ys : List Bool} {at limit at₁ at₂ to n
     → Written d d₁ at limit xs at₁ → Advanced d₁ d₂ at₁ limit ys to at₂ n′ → Advanced d d₂ at limit (xs ++ ys) to at₂ n′
 advanced-append w r = record { written = written-append w (r .written); moved = r .moved }
 
--- a plane, and then the planes below it, down to one
+-- a plane, and then the planes below it, down to the lowest
 pub planes-more : {d₁ d₂ after : List Bool} {at₁ at₂ limit n₂ end : ℕ} (lowest k n : ℕ) (ws : List ℕ) → lowest < k
     → Advanced d₁ d₂ at₁ limit (planeCode n (plane (k - 1) ws)) (planeNext n (plane (k - 1) ws)) at₂ n₂
     → Written d₂ after at₂ limit (codeFrom n₂ (planesOf (k - 1) (k - 1 - lowest) ws)) end

@@ -10,7 +10,7 @@ use lib.Pow.{pow-pos, ones-split, high, ones-lt}
 use lib.ListN.{length, replicate, length-replicate, drop-of-length-le, replicate-append-replicate}
 use lib.Seq.{take-all}
 use Rattle.bits.specs.Stream.{bit}
-use Rattle.planes.specs.Coder.{plane, planesOf, scan, scanMoves, planeCode, planeNext, codeFrom, planesCode}
+use Rattle.planes.specs.Coder.{plane, planesOf, scan, scanMoves, planeCode, planeNext, codeFrom, planesCode, mostBits}
 use Rattle.planes.proofs.Words.{Below}
 
 -- N words of w bits, all ones
@@ -53,11 +53,11 @@ first-ones : (l : ℕ) → planeCode 0 (replicate (suc l) true) ≡ replicate (s
 unfolding planeCode
 first-ones l = ap {B = List Bool} (λ r. true ∷ r) (scan-ones l)
 
-ones-code : (N p : ℕ) → 1 ≤ N → 1 ≤ p → codeFrom 0 (replicate p (replicate N true)) ≡ replicate (N * p + N - 1) true
+ones-code : (N p : ℕ) → 1 ≤ N → 1 ≤ p → codeFrom 0 (replicate p (replicate N true)) ≡ replicate (mostBits N p) true
 ones-code zero p hN hp = absurd (omega arith)
 ones-code (suc l) zero hN hp = absurd (omega arith)
 ones-code (suc l) (suc p) hN hp =
-    let e : suc l * suc p + suc l - 1 ≡ suc (2 * l) + suc l * p = omega (arith, mul-suc (suc l) p) in
+    let e : mostBits (suc l) (suc p) ≡ suc (2 * l) + suc l * p = omega (arith, mul-suc (suc l) p) in
     rw (next-ones l, first-ones l, full-planes (suc l) p, e) (replicate-append-replicate (suc (2 * l)) (suc l * p) true)
 
 -- every bit of the largest word is a one
@@ -86,12 +86,12 @@ onesOf-below w zero = tt
 onesOf-below w (suc N) = (ones-lt w, onesOf-below w N)
 
 -- the code of words of all ones
-pub onesOf-code : (w N p : ℕ) → 1 ≤ N → 1 ≤ p → p ≤ w → planesCode w p (onesOf w N) ≡ replicate (N * p + N - 1) true
+pub onesOf-code : (w N p : ℕ) → 1 ≤ N → 1 ≤ p → p ≤ w → planesCode w p (onesOf w N) ≡ replicate (mostBits N p) true
 unfolding planesCode
 onesOf-code w N p hN hp h = rw (ones-planes w N p w h (omega arith)) (ones-code N p hN hp)
 
 -- the bound is met
 pub tight : (w N p : ℕ) → 1 ≤ N → 1 ≤ p → p ≤ w
-    → (ws : List ℕ) × (length ws ≡ N) × Below w ws × (length (planesCode w p ws) ≡ N * p + N - 1)
+    → (ws : List ℕ) × (length ws ≡ N) × Below w ws × (length (planesCode w p ws) ≡ mostBits N p)
 tight w N p hN hp h =
-    (onesOf w N, length-replicate N (2 ^ w - 1), onesOf-below w N, ap length (onesOf-code w N p hN hp h) ∙ length-replicate (N * p + N - 1) true)
+    (onesOf w N, length-replicate N (2 ^ w - 1), onesOf-below w N, ap length (onesOf-code w N p hN hp h) ∙ length-replicate (mostBits N p) true)

@@ -1,7 +1,7 @@
 -- Document 01's "Coding the planes": what is written. N is the length of the list of words, w the word size.
 use mathlib.Core.Bool.{Bool, true, false, _||_, cond}
 use mathlib.Core.List.{List, [], _∷_, _++_, map}
-use Prim.Native.Nat.{ℕ, zero, suc, _+_, _-_}
+use Prim.Native.Nat.{ℕ, zero, suc, _+_, _-_, _*_}
 use lib.ListN.{take, drop}
 use Rattle.bits.specs.Stream.{bit}
 
@@ -68,3 +68,7 @@ codeFrom n (bs ∷ rest) = planeCode n bs ++ codeFrom (planeNext n bs) rest
 -- what "Coding the planes" writes of words of w bits in p planes, uncut and without a head
 unfoldable pub planesCode : ℕ → ℕ → List ℕ → List Bool
 planesCode w p ws = codeFrom 0 (planesOf w p ws)
+
+-- the most bits that N words take in p planes: N x p + N - 1
+abbrev pub mostBits : ℕ → ℕ → ℕ
+mostBits N p = N * p + N - 1

@@ -1,11 +1,8 @@
 -- A plane is its n first bits, then a test.
-use mathlib.Core.Path.{_≡_}
-use Prim.Native.Nat.{_+_}
-use native.Mathlib.Omega.{arith}
+use borrow.Author.Needs.{needs}
 use Rattle.planes.specs.Coder.{planeCode}
 use Rattle.planes.proofs.Steps.{advanced-append}
 use Rattle.planes.proofs.Places.{first-length}
-use borrow.Author.Needs.{needs}
 use Rattle.planes.proofs.writer.put_plane.Statement.{statement}
 use Rattle.planes.proofs.writer.put_plane.Tie as tie
 
@@ -17,10 +14,8 @@ verbatim-requires c κs = search needs
 
 test-requires : tie.Need-test-requires
 test-requires c κs =
-    let v = c .before .before .before in
-    let s = v .before .before .before .before .before in
-    let m : v .verbatim .result .at ≡ s .args .out .at + s .args .n =
-    omega (arith, v .verbatim .ensures .moved, first-length (s .args .k) (s .args .words .now) (s .args .n) (s .pre .1)) in
+    let s = c .before .before .before .before .before .before .before .before in
+    let m = first-length (s .args .k) (s .args .words .now) (s .args .n) (s .pre .1) in
     search needs
 
 same-length : tie.Need-same-length
