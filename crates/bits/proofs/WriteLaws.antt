@@ -1,13 +1,13 @@
 -- Laws of writing: what it does to the stream, and that all other bits stay. Assumes nothing.
 use mathlib.Core.Path.{_≡_, refl, sym, ap, _∙_}
 use mathlib.Core.Bool.{Bool}
-use mathlib.Core.List.{List, [], _∷_, _++_}
+use mathlib.Core.List.{List, [], _∷_, _++_, append-assoc}
 use Prim.Native.Nat.{ℕ, suc, _+_, _-_, _/_, _^_, _≤_, _<_, min}
 use native.Mathlib.Nat.{add-zero}
 use native.Mathlib.Decide.{decLe}
 use native.Mathlib.Omega.{arith}
-use lib.ListN.{length, getD, set, take, length-append, length-take}
-use lib.Seq.{sets, length-sets, take-nil, take-all, getD-set-other}
+use lib.ListN.{length, getD, set, take, length-append, length-take, drop}
+use lib.Seq.{slice, length-take-le, take-add, take-append-add, drop-at, sets-eq, sets, length-sets, take-nil, take-all, getD-set-other}
 use Rattle.bits.specs.Stream.{numberBits, write, Written}
 use Rattle.bits.proofs.NumberLaws.{length-numberBits, numberBits-add, numberBits-take}
 
@@ -84,6 +84,21 @@ module _ (d : List Bool) (at limit : ℕ) (code : List Bool) (i : ℕ) (z : Bool
   pub write-beyond : limit ≤ i → getD (write d at limit code) i z ≡ getD d i z
   unfolding write
   write-beyond h = sets-other d at (take (limit - at) code) i z (λ k l e. omega (arith, length-take (limit - at) code))
+
+-- a code that is below the limit stands in the stream from its place on, and after it all is as it was
+pub slice-write : (d : List Bool) (at limit end : ℕ) (code : List Bool) → at + length code ≤ limit → limit ≤ end → end ≤ length d
+    → slice at end (write d at limit code) ≡ code ++ slice (at + length code) end d
+slice-write d at limit end code h k l =
+    let n : ℕ = at + length code in
+    let before : length (take at d) ≡ at = length-take-le at d (omega arith) in
+    let upto : length (take at d ++ code) ≡ n = length-append (take at d) code ∙ ap (λ (i : ℕ). i + length code) before in
+    let first : length (take n d) ≡ n = length-take-le n d (omega arith) in
+    let e : end ≡ length (take at d ++ code) + (end - n) = omega arith in
+    let e′ : end ≡ n + (end - n) = omega arith in
+    ap (λ (x : List Bool). slice at end x) (write-whole d at limit code h ∙ sets-eq code d at (omega arith))
+    ∙ ap (drop at) (ap (λ (i : ℕ). take i (take at d ++ code ++ drop n d)) e ∙ take-append-add (take at d ++ code) (drop n d) (end - n) ∙ append-assoc (take at d) code (take (end - n) (drop n d)))
+    ∙ drop-at (take at d) (code ++ take (end - n) (drop n d)) at before
+    ∙ ap (λ (x : List Bool). code ++ x) (sym (ap (λ (i : ℕ). drop n (take i d)) e′ ∙ ap (drop n) (take-add n (end - n) d) ∙ drop-at (take n d) (take (end - n) (drop n d)) n first))
 
 -- what one part wrote, and then another
 pub written-none : (d : List Bool) (at limit : ℕ) → Written d d at limit [] at

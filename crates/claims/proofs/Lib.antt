@@ -1,0 +1,4 @@
+-- What is claimed, each under a name of its own.
+pub mod Cases
+pub mod Demand3
+pub mod PlanesBack

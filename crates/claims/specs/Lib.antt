@@ -1,0 +1,2 @@
+-- The statements that `claims` proves, and the definitions that its contracts cite.
+pub mod Table
