@@ -5,10 +5,10 @@ use mathlib.Core.List.{List, [], _∷_, map}
 use Prim.Native.Nat.{ℕ, zero, suc, _+_, _-_, _*_, _/_, _%_, _^_, _≤_, _<_}
 use native.Mathlib.Omega.{arith}
 use native.Mathlib.Nat.{mod-lt, mod-le, mod-one, div-add-mod', mod-eq-of-lt}
-use lib.Dec.{eqb}
 use lib.Pow.{pow-pos, mod-pow-add, mod-mod-pow}
 use lib.ListN.{length, getD, replicate}
 use Rattle.bits.specs.Stream.{bit, digit}
+use Rattle.bits.proofs.NumberLaws.{digit-odd}
 use Rattle.planes.specs.Coder.{plane, any}
 
 -- every word is below 2 ^ w
@@ -30,11 +30,6 @@ abbrev pub Low : ℕ → List ℕ → Type 0
 Low j [] = Unit {0}
 Low j (x ∷ ws) = (x % 2 ^ j ≡ 0) × Low j ws
 
-digit-one : (y : ℕ) → y < 2 → digit (eqb y 1) ≡ y
-digit-one zero h = refl
-digit-one (suc zero) h = refl
-digit-one (suc (suc y)) h = absurd (omega arith)
-
 mod-down : (x j m : ℕ) → j ≤ m → x % 2 ^ j ≤ x % 2 ^ m
 mod-down x j m h =
     let e : m ≡ (m - j) + j = omega arith in
@@ -45,7 +40,7 @@ pub top-plane : (x m : ℕ) → x % 2 ^ suc m ≡ digit (bit m x) * 2 ^ m + x % 
 top-plane x m =
     let e : suc m ≡ 1 + m = omega arith in
     ap (λ (n : ℕ). x % 2 ^ n) e ∙ mod-pow-add x 1 m
-    ∙ ap (λ (d : ℕ). d * 2 ^ m + x % 2 ^ m) (sym (digit-one (x / 2 ^ m % 2) (mod-lt (x / 2 ^ m) (omega arith))))
+    ∙ ap (λ (d : ℕ). d * 2 ^ m + x % 2 ^ m) (sym (digit-odd (x / 2 ^ m % 2) (mod-lt (x / 2 ^ m) (omega arith))))
 
 pub low-all : (ws : List ℕ) → Low 0 ws
 low-all [] = tt
