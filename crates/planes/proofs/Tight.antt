@@ -73,7 +73,7 @@ ones-bit w k h =
     let o : (2 ^ w - 1) / 2 ^ k % 2 ≡ 1 = ap (λ (n : ℕ). (2 ^ n - 1) / 2 ^ k % 2) e ∙ ap (λ (n : ℕ). n % 2) (ones-high (suc (w - suc k)) k) ∙ odd-ones (w - suc k) in
     ap (λ (n : ℕ). eqb n 1) o
 
-ones-plane : (w N k : ℕ) → k < w → plane k (onesOf w N) ≡ replicate N true
+pub ones-plane : (w N k : ℕ) → k < w → plane k (onesOf w N) ≡ replicate N true
 ones-plane w zero k h = refl
 ones-plane w (suc N) k h = rw (ones-plane w N k h, ones-bit w k h)
 

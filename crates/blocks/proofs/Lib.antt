@@ -1,0 +1,9 @@
+-- The laws of blocks.
+pub mod Lists
+pub mod Steps
+pub mod Lines
+pub mod Trips
+pub mod Tables
+pub mod Orders
+pub mod Whole
+pub mod Cases

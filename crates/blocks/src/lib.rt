@@ -1,0 +1,1 @@
+// Blocks of words: the transforms of four values, rows and columns, and the order of coefficients.

@@ -1,0 +1,6 @@
+-- The laws of a block's code.
+pub mod Needed
+pub mod Trips
+pub mod Lengths
+pub mod Longest
+pub mod Budget

@@ -1,0 +1,4 @@
+-- The definitions that the contracts of `codec` cite: document 01's "Around the planes".
+pub mod Head
+pub mod Code
+pub mod Read

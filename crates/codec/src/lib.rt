@@ -1,0 +1,1 @@
+// The code of a block, written and read.
