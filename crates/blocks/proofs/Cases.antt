@@ -5,7 +5,7 @@ use mathlib.Core.List.{List, [], _∷_, _++_}
 use Prim.Native.Nat.{ℕ}
 use lib.ListN.{replicate}
 use Rattle.words.specs.Word.{plus, minus, half, nega, unnega}
-use Rattle.blocks.specs.Four.{lift, unlift, differ, undiffer}
+use Rattle.blocks.specs.Four.{lift, twiceLess, unlift, differ}
 use Rattle.blocks.specs.Axes.{along, forward, backward, onFour}
 use Rattle.blocks.specs.Order.{inOrder, order, reorder, restore}
 use Rattle.blocks.specs.Coefficients.{coefficients, values}
@@ -26,7 +26,7 @@ unfolding plus minus nega differ along reorder coefficients
 p3 = refl
 
 pub p7 : values 32 false 1 (coefficients 32 false 1 (1 ∷ 0 ∷ 0 ∷ 0 ∷ [])) ≡ 0 ∷ 0 ∷ 0 ∷ 0 ∷ []
-unfolding plus minus half nega unnega lift unlift along reorder restore coefficients values
+unfolding plus minus half nega unnega lift twiceLess unlift along reorder restore coefficients values
 p7 = refl
 
 -- rows before columns: this block becomes zeros, and would not if the columns were done first
@@ -40,9 +40,9 @@ columns-first = refl
 
 -- columns before rows in reading
 pub columns-read-first : backward 32 false 2 inner ≡ 1 ∷ 1 ∷ 0xffff_ffff ∷ 0xffff_ffff ∷ 1 ∷ 1 ∷ 0xffff_ffff ∷ 0xffff_ffff ∷ 0xffff_fffe ∷ 0 ∷ 0 ∷ 2 ∷ 0xffff_fffe ∷ 0 ∷ 0 ∷ 2 ∷ []
-unfolding plus minus half unlift along
+unfolding plus minus half twiceLess unlift along
 columns-read-first = refl
 
 pub rows-read-first : along (unlift 32) 4 (along (unlift 32) 1 inner) ≡ 1 ∷ 1 ∷ 0xffff_fffe ∷ 0xffff_fffe ∷ 1 ∷ 1 ∷ 0 ∷ 0 ∷ 0xffff_ffff ∷ 0xffff_ffff ∷ 0 ∷ 0 ∷ 0xffff_ffff ∷ 0xffff_ffff ∷ 2 ∷ 2 ∷ []
-unfolding plus minus half unlift along
+unfolding plus minus half twiceLess unlift along
 rows-read-first = refl

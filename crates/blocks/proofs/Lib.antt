@@ -5,5 +5,8 @@ pub mod Lines
 pub mod Trips
 pub mod Tables
 pub mod Orders
+pub mod Filling
 pub mod Whole
+pub mod Quads
+pub mod Squares
 pub mod Cases

@@ -1,9 +1,10 @@
 -- Lists by their elements, and lists of words.
-use mathlib.Core.Path.{_≡_, refl, ap, ap₂}
+use mathlib.Core.Path.{_≡_, refl, sym, ap, ap₂, _∙_}
 use mathlib.Core.List.{List, [], _∷_, map}
 use Prim.Native.Nat.{ℕ, zero, suc, _^_, _<_}
 use native.Mathlib.Omega.{arith}
 use lib.ListN.{length, getD}
+use lib.Seq.{ext-getD}
 use lib.Pow.{pow-pos}
 use Rattle.blocks.specs.Axes.{tabulate}
 
@@ -16,6 +17,12 @@ module _ {ℓ} {A : Type ℓ} where
   getD-tabulate zero f i d h = absurd (omega arith)
   getD-tabulate (suc n) f zero d h = refl
   getD-tabulate (suc n) f (suc i) d h = getD-tabulate n (λ i. f (suc i)) i d (omega arith)
+
+-- a list is its elements
+pub tabulate-getD : (l : List ℕ) (n : ℕ) → length l ≡ n → tabulate n (λ i. getD l i 0) ≡ l
+tabulate-getD l n e =
+    ext-getD 0 (tabulate n (λ i. getD l i 0)) l (length-tabulate n _ ∙ sym e)
+    (λ i h. getD-tabulate n _ i 0 (omega (arith, length-tabulate n (λ (i : ℕ). getD l i 0))))
 
 pub getD-map-in : (f : ℕ → ℕ) (l : List ℕ) (i : ℕ) → i < length l → getD (map f l) i 0 ≡ f (getD l i 0)
 getD-map-in f [] i h = absurd (omega arith)

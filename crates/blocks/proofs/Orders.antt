@@ -25,3 +25,6 @@ line-in-order = refl
 pub square-in-order : inOrder 2 (order 2) ≡ true
 unfolding inOrder
 square-in-order = refl
+
+pub square-places : Permutation 16 (order 2)
+square-places = ordered 2 (order 2) square-in-order .places

@@ -7,7 +7,7 @@ use lib.Pow.{pow-pos}
 use Rattle.words.proofs.Sums.{plus-lt, minus-lt, plus-minus, minus-plus}
 use Rattle.words.proofs.Halves.{half-lt}
 use Rattle.words.specs.Word.{plus, minus, half}
-use Rattle.blocks.specs.Four.{Transform, lift, unlift, differ, undiffer, writing, reading}
+use Rattle.blocks.specs.Four.{Transform, lift, twiceLess, unlift, differ, undiffer, writing, reading}
 use Rattle.blocks.specs.Axes.{onFour}
 use Rattle.blocks.proofs.Lists.{Words}
 
@@ -33,7 +33,7 @@ module _ (k : ℕ) where
       words-four k (half-lt k _ some (plus-lt k _ _)) (minus-lt k _ _) (minus-lt k _ _) (plus-lt k _ _)
 
   pub keeps-unlift : Keeps k (unlift k)
-  unfolding unlift
+  unfolding twiceLess unlift
   keeps-unlift x y z w _ _ _ _ = words-four k (minus-lt k _ _) (plus-lt k _ _) (minus-lt k _ _) (plus-lt k _ _)
 
   pub keeps-differ : Keeps k (differ k)

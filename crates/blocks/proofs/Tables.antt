@@ -43,7 +43,7 @@ permutation n t e =
     }
 
 -- an entry that the table has
-found : (p : ℕ) (t : List ℕ) → 0 < count p t → (entryOf p t < length t) × (getD t (entryOf p t) 0 ≡ p)
+pub found : (p : ℕ) (t : List ℕ) → 0 < count p t → (entryOf p t < length t) × (getD t (entryOf p t) 0 ≡ p)
 found p [] h = absurd (omega arith)
 found p (x ∷ t) h = go (eqb x p) refl h (found p t)
   where
@@ -58,7 +58,7 @@ occurs p (x ∷ t) zero h e = rw (eq-eqb x p e) (omega arith)
 occurs p (x ∷ t) (suc k) h e = omega (arith, occurs p t k (omega arith) e)
 
 -- an entry that it has once stands nowhere else
-only : (p : ℕ) (t : List ℕ) (k : ℕ) → count p t ≤ 1 → k < length t → getD t k 0 ≡ p → entryOf p t ≡ k
+pub only : (p : ℕ) (t : List ℕ) (k : ℕ) → count p t ≤ 1 → k < length t → getD t k 0 ≡ p → entryOf p t ≡ k
 only p [] k one h e = absurd (omega arith)
 only p (x ∷ t) zero one h e = rw (eq-eqb x p e)
 only p (x ∷ t) (suc k) one h e = go (eqb x p) one (only p t k)

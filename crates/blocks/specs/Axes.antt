@@ -32,7 +32,3 @@ forward w exact (suc a) ws = along (writing w exact) (4 ^ a) (forward w exact a 
 abbrev pub backward : ℕ → Bool → ℕ → List ℕ → List ℕ
 backward w exact zero ws = ws
 backward w exact (suc a) ws = backward w exact a (along (reading w exact) (4 ^ a) ws)
-
--- "four rows of four values, place i + 4j for column i, row j"
-unfoldable pub flat : List (List ℕ) → List ℕ
-flat rows = tabulate (4 * 4) (λ p. getD (getD rows (p / 4) []) (p % 4) 0)

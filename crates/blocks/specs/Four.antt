@@ -22,6 +22,10 @@ lift k x y z w =
     let y₃ = minus k y₂ (half k w₃) in
     x₂ ∷ y₃ ∷ z₂ ∷ w₃ ∷ []
 
+-- 2a - b, for the steps that double
+unfoldable pub twiceLess : ℕ → ℕ → ℕ → ℕ
+twiceLess k a b = minus k (plus k a a) b
+
 -- its reading, the steps from last to first, doubling where a step halved: y+=w/2, w-=y/2; y+=w, w=2w-y; z+=x, x=2x-z; y+=z, z=2z-y; w+=x, x=2x-w.
 -- It is no inverse: a bit that a halving dropped stays lost
 unfoldable pub unlift : ℕ → Transform
@@ -29,13 +33,13 @@ unlift k x y z w =
     let y₁ = plus k y (half k w) in
     let w₁ = minus k w (half k y₁) in
     let y₂ = plus k y₁ w₁ in
-    let w₂ = minus k (plus k w₁ w₁) y₂ in
+    let w₂ = twiceLess k w₁ y₂ in
     let z₁ = plus k z x in
-    let x₁ = minus k (plus k x x) z₁ in
+    let x₁ = twiceLess k x z₁ in
     let y₃ = plus k y₂ z₁ in
-    let z₂ = minus k (plus k z₁ z₁) y₃ in
+    let z₂ = twiceLess k z₁ y₃ in
     let w₃ = plus k w₂ x₁ in
-    let x₂ = minus k (plus k x₁ x₁) w₃ in
+    let x₂ = twiceLess k x₁ w₃ in
     x₂ ∷ y₃ ∷ z₂ ∷ w₃ ∷ []
 
 -- exact: w-=z, z-=y, y-=x; w-=z, z-=y; w-=z

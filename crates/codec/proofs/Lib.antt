@@ -1,4 +1,5 @@
 -- The laws of a block's code.
+pub mod Maps
 pub mod Needed
 pub mod Trips
 pub mod Lengths

@@ -2,3 +2,4 @@
 pub mod Head
 pub mod Code
 pub mod Read
+pub mod Change

@@ -1,1 +1,2 @@
-// The code of a block, written and read.
+// The code of a block of 32-bit words, by kind, mode and dimension: document 01's "Around the planes".
+pub mod change;

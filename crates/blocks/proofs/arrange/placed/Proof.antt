@@ -1,0 +1,79 @@
+use mathlib.Core.Path.{_≡_, refl, ap, _∙_}
+-- `blocks::arrange::placed` meets its contract: after k rounds the words of the first k coefficients stand at their places, and no two share one.
+use borrow.Author.Needs.{needs}
+use Rattle.blocks.proofs.Orders.{square-places}
+use Rattle.blocks.proofs.Filling.{Filled, fill-more, entries-apart, scattered}
+use Rattle.blocks.specs.Order.{order}
+use Rattle.words.specs.Word.{unnega}
+use lib.ListN.{length, getD, length-set}
+use native.Mathlib.Omega.{arith}
+use Prim.Native.Nat.{ℕ, _≤_, _-_}
+use Rattle.blocks.proofs.arrange.placed.Statement.{statement}
+use Rattle.blocks.proofs.arrange.placed.Tie as tie
+use Rattle.blocks.proofs.arrange.placed.Reads as reads
+use Rattle.blocks.proofs.arrange.placed.Lts as lts
+use Rattle.blocks.proofs.arrange.place.Reads as place-reads
+use Rattle.words.proofs.unnega.Reads as unnega-reads
+
+abbrev Inv-loop : tie.InvT-loop
+Inv-loop cs out₀ k₀ out k = (k ≤ 16) × (length out ≡ 16) × Filled (λ i. getD (order 2) i 0) (λ i. unnega 32 (getD cs i 0)) out k
+
+abbrev μ-loop : tie.MeasureT-loop
+μ-loop cs out₀ k₀ out k = 16 - k
+
+loop-holds : tie.Need-loop-holds Inv-loop μ-loop
+loop-holds c = search needs
+
+mul-unnega : tie.Need-mul-unnega Inv-loop μ-loop
+mul-unnega c = search needs
+
+array-read-unnega : tie.Need-array-read-unnega Inv-loop μ-loop
+array-read-unnega c = search needs
+
+unnega-requires : tie.Need-unnega-requires Inv-loop μ-loop
+unnega-requires c κs = search needs
+
+place-requires : tie.Need-place-requires Inv-loop μ-loop
+place-requires c κs = search needs
+
+mul-out : tie.Need-mul-out Inv-loop μ-loop
+mul-out c = search needs
+
+array-write-out : tie.Need-array-write-out Inv-loop μ-loop
+array-write-out c = search needs
+
+add-k : tie.Need-add-k Inv-loop μ-loop
+add-k c = search needs
+
+loop-less : tie.Need-loop-less Inv-loop μ-loop
+loop-less c = search needs
+
+loop-again : tie.Need-loop-again Inv-loop μ-loop
+loop-again c =
+    let s = c .before .before .before in
+    (search needs, simp length-set (omega arith),
+    fill-more _ _ (s .loop .out) (s .loop .k) (c .place .result) (c .before .unnega .result) (c .place .ensures .0) (c .before .unnega .ensures) (omega arith)
+    (λ i h e. entries-apart 16 (order 2) square-places i (s .loop .k) h (omega arith) (e ∙ c .place .ensures .0)) (s .loop .inv .2))
+
+returns : tie.Need-returns Inv-loop μ-loop
+returns c =
+    let e : c .before .loop .k ≡ 16 = omega arith in
+    scattered (unnega 32) 16 (order 2) square-places (c .before .before .args .t1) (c .before .loop .out) (c .before .loop .inv .1) (omega arith) (rw e at (c .before .loop .inv .2))
+
+pub placed-spec : {M : Type 1} → statement M
+placed-spec =
+    tie.close
+    (tie.spec
+    Inv-loop
+    μ-loop
+    loop-holds
+    mul-unnega
+    array-read-unnega
+    unnega-requires
+    place-requires
+    mul-out
+    array-write-out
+    add-k
+    loop-less
+    loop-again
+    returns)

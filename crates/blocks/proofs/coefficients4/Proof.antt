@@ -1,0 +1,73 @@
+-- `blocks::coefficients4` meets its contract: the transform of the one line, each value in negabinary.
+use Rattle.blocks.proofs.Quads.{coefficients-line}
+use borrow.Author.Needs.{needs}
+use Rattle.blocks.proofs.coefficients4.Statement.{statement}
+use Rattle.blocks.proofs.coefficients4.Tie as tie
+use Rattle.blocks.proofs.coefficients4.Reads as reads
+use Rattle.blocks.proofs.coefficients4.Lts as lts
+use Rattle.blocks.proofs.transform.write_four.Reads as write-four-reads
+use Rattle.words.proofs.nega.Reads as nega-reads
+
+shared-slice-read-t6 : tie.Need-shared-slice-read-t6
+shared-slice-read-t6 c = search needs
+
+shared-slice-read-nega : tie.Need-shared-slice-read-nega
+shared-slice-read-nega c = search needs
+
+shared-slice-read-nega-2 : tie.Need-shared-slice-read-nega-2
+shared-slice-read-nega-2 c = search needs
+
+shared-slice-read-t12 : tie.Need-shared-slice-read-t12
+shared-slice-read-t12 c = search needs
+
+write-four-requires : tie.Need-write-four-requires
+write-four-requires c κs = search needs
+
+array-read-nega : tie.Need-array-read-nega
+array-read-nega c = search needs
+
+nega-requires : tie.Need-nega-requires
+nega-requires c κs = search needs
+
+array-read-nega-2 : tie.Need-array-read-nega-2
+array-read-nega-2 c = search needs
+
+nega-requires-2 : tie.Need-nega-requires-2
+nega-requires-2 c κs = search needs
+
+array-read-nega-3 : tie.Need-array-read-nega-3
+array-read-nega-3 c = search needs
+
+nega-requires-3 : tie.Need-nega-requires-3
+nega-requires-3 c κs = search needs
+
+array-read-nega-4 : tie.Need-array-read-nega-4
+array-read-nega-4 c = search needs
+
+nega-requires-4 : tie.Need-nega-requires-4
+nega-requires-4 c κs = search needs
+
+returns : tie.Need-returns
+returns c =
+    let t = c .before .before .before .before in
+    let s = t .before .before .before .before .before .before in
+    cc (coefficients-line 32 (s .args .exact) (s .args .words .now) (s .pre) (t .write-four .result) (t .write-four .ensures))
+
+pub coefficients4-spec : {M : Type 1} → statement M
+coefficients4-spec =
+    tie.close
+    (tie.spec
+    shared-slice-read-t6
+    shared-slice-read-nega
+    shared-slice-read-nega-2
+    shared-slice-read-t12
+    write-four-requires
+    array-read-nega
+    nega-requires
+    array-read-nega-2
+    nega-requires-2
+    array-read-nega-3
+    nega-requires-3
+    array-read-nega-4
+    nega-requires-4
+    returns)

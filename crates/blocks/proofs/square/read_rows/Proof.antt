@@ -1,0 +1,48 @@
+-- `blocks::square::read_rows` meets its contract: each row is what `read_four` ensures.
+use borrow.Author.Needs.{needs}
+use Rattle.blocks.proofs.square.read_rows.Statement.{statement}
+use Rattle.blocks.proofs.square.read_rows.Tie as tie
+use Rattle.blocks.proofs.square.read_rows.Reads as reads
+use Rattle.blocks.proofs.square.read_rows.Lts as lts
+use Rattle.blocks.proofs.transform.read_four.Reads as read-four-reads
+
+array-copy-out-read-four : tie.Need-array-copy-out-read-four
+array-copy-out-read-four c = search needs
+
+read-four-requires : tie.Need-read-four-requires
+read-four-requires c κs = search needs
+
+array-copy-out-read-four-2 : tie.Need-array-copy-out-read-four-2
+array-copy-out-read-four-2 c = search needs
+
+read-four-requires-2 : tie.Need-read-four-requires-2
+read-four-requires-2 c κs = search needs
+
+array-copy-out-read-four-3 : tie.Need-array-copy-out-read-four-3
+array-copy-out-read-four-3 c = search needs
+
+read-four-requires-3 : tie.Need-read-four-requires-3
+read-four-requires-3 c κs = search needs
+
+array-copy-out-read-four-4 : tie.Need-array-copy-out-read-four-4
+array-copy-out-read-four-4 c = search needs
+
+read-four-requires-4 : tie.Need-read-four-requires-4
+read-four-requires-4 c κs = search needs
+
+returns : tie.Need-returns
+returns c = cc
+
+pub read-rows-spec : {M : Type 1} → statement M
+read-rows-spec =
+    tie.close
+    (tie.spec
+    array-copy-out-read-four
+    read-four-requires
+    array-copy-out-read-four-2
+    read-four-requires-2
+    array-copy-out-read-four-3
+    read-four-requires-3
+    array-copy-out-read-four-4
+    read-four-requires-4
+    returns)

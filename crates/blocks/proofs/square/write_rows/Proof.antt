@@ -1,0 +1,48 @@
+-- `blocks::square::write_rows` meets its contract: each row is what `write_four` ensures.
+use borrow.Author.Needs.{needs}
+use Rattle.blocks.proofs.square.write_rows.Statement.{statement}
+use Rattle.blocks.proofs.square.write_rows.Tie as tie
+use Rattle.blocks.proofs.square.write_rows.Reads as reads
+use Rattle.blocks.proofs.square.write_rows.Lts as lts
+use Rattle.blocks.proofs.transform.write_four.Reads as write-four-reads
+
+array-copy-out-write-four : tie.Need-array-copy-out-write-four
+array-copy-out-write-four c = search needs
+
+write-four-requires : tie.Need-write-four-requires
+write-four-requires c κs = search needs
+
+array-copy-out-write-four-2 : tie.Need-array-copy-out-write-four-2
+array-copy-out-write-four-2 c = search needs
+
+write-four-requires-2 : tie.Need-write-four-requires-2
+write-four-requires-2 c κs = search needs
+
+array-copy-out-write-four-3 : tie.Need-array-copy-out-write-four-3
+array-copy-out-write-four-3 c = search needs
+
+write-four-requires-3 : tie.Need-write-four-requires-3
+write-four-requires-3 c κs = search needs
+
+array-copy-out-write-four-4 : tie.Need-array-copy-out-write-four-4
+array-copy-out-write-four-4 c = search needs
+
+write-four-requires-4 : tie.Need-write-four-requires-4
+write-four-requires-4 c κs = search needs
+
+returns : tie.Need-returns
+returns c = cc
+
+pub write-rows-spec : {M : Type 1} → statement M
+write-rows-spec =
+    tie.close
+    (tie.spec
+    array-copy-out-write-four
+    write-four-requires
+    array-copy-out-write-four-2
+    write-four-requires-2
+    array-copy-out-write-four-3
+    write-four-requires-3
+    array-copy-out-write-four-4
+    write-four-requires-4
+    returns)

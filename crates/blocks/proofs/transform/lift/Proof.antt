@@ -1,0 +1,108 @@
+-- `blocks::transform::lift` meets its contract: each step is what `words` ensures of it.
+use Rattle.blocks.specs.Four.{lift}
+use borrow.Author.Needs.{needs}
+use Rattle.blocks.proofs.transform.lift.Statement.{statement}
+use Rattle.blocks.proofs.transform.lift.Tie as tie
+use Rattle.blocks.proofs.transform.lift.Reads as reads
+use Rattle.blocks.proofs.transform.lift.Lts as lts
+use Rattle.words.proofs.half.Reads as half-reads
+use Rattle.words.proofs.minus.Reads as minus-reads
+use Rattle.words.proofs.plus.Reads as plus-reads
+
+array-read-plus : tie.Need-array-read-plus
+array-read-plus c = search needs
+
+array-read-plus-2 : tie.Need-array-read-plus-2
+array-read-plus-2 c = search needs
+
+plus-requires : tie.Need-plus-requires
+plus-requires c κs = search needs
+
+half-requires : tie.Need-half-requires
+half-requires c κs = search needs
+
+array-read-minus : tie.Need-array-read-minus
+array-read-minus c = search needs
+
+minus-requires : tie.Need-minus-requires
+minus-requires c κs = search needs
+
+array-read-plus-3 : tie.Need-array-read-plus-3
+array-read-plus-3 c = search needs
+
+array-read-plus-4 : tie.Need-array-read-plus-4
+array-read-plus-4 c = search needs
+
+plus-requires-2 : tie.Need-plus-requires-2
+plus-requires-2 c κs = search needs
+
+half-requires-2 : tie.Need-half-requires-2
+half-requires-2 c κs = search needs
+
+array-read-minus-2 : tie.Need-array-read-minus-2
+array-read-minus-2 c = search needs
+
+minus-requires-2 : tie.Need-minus-requires-2
+minus-requires-2 c κs = search needs
+
+plus-requires-3 : tie.Need-plus-requires-3
+plus-requires-3 c κs = search needs
+
+half-requires-3 : tie.Need-half-requires-3
+half-requires-3 c κs = search needs
+
+minus-requires-3 : tie.Need-minus-requires-3
+minus-requires-3 c κs = search needs
+
+plus-requires-4 : tie.Need-plus-requires-4
+plus-requires-4 c κs = search needs
+
+half-requires-4 : tie.Need-half-requires-4
+half-requires-4 c κs = search needs
+
+minus-requires-4 : tie.Need-minus-requires-4
+minus-requires-4 c κs = search needs
+
+half-requires-5 : tie.Need-half-requires-5
+half-requires-5 c κs = search needs
+
+plus-requires-5 : tie.Need-plus-requires-5
+plus-requires-5 c κs = search needs
+
+half-requires-6 : tie.Need-half-requires-6
+half-requires-6 c κs = search needs
+
+minus-requires-5 : tie.Need-minus-requires-5
+minus-requires-5 c κs = search needs
+
+returns : tie.Need-returns
+unfolding lift
+returns c = cc
+
+pub lift-spec : {M : Type 1} → statement M
+lift-spec =
+    tie.close
+    (tie.spec
+    array-read-plus
+    array-read-plus-2
+    plus-requires
+    half-requires
+    array-read-minus
+    minus-requires
+    array-read-plus-3
+    array-read-plus-4
+    plus-requires-2
+    half-requires-2
+    array-read-minus-2
+    minus-requires-2
+    plus-requires-3
+    half-requires-3
+    minus-requires-3
+    plus-requires-4
+    half-requires-4
+    minus-requires-4
+    half-requires-5
+    plus-requires-5
+    half-requires-6
+    minus-requires-5
+    returns)

@@ -1,0 +1,23 @@
+-- `blocks::transform::read_four` meets its contract: the mode picks the transform.
+use borrow.Author.Needs.{needs}
+use Rattle.blocks.proofs.transform.read_four.Statement.{statement}
+use Rattle.blocks.proofs.transform.read_four.Tie as tie
+use Rattle.blocks.proofs.transform.read_four.Reads as reads
+use Rattle.blocks.proofs.transform.read_four.Lts as lts
+use Rattle.blocks.proofs.transform.undiffer.Reads as undiffer-reads
+use Rattle.blocks.proofs.transform.unlift.Reads as unlift-reads
+
+undiffer-requires : tie.Need-undiffer-requires
+undiffer-requires c κs = search needs
+
+unlift-requires : tie.Need-unlift-requires
+unlift-requires c κs = search needs
+
+returns : tie.Need-returns
+returns c = cc
+
+returns-2 : tie.Need-returns-2
+returns-2 c = cc
+
+pub read-four-spec : {M : Type 1} → statement M
+read-four-spec = tie.close (tie.spec undiffer-requires unlift-requires returns returns-2)

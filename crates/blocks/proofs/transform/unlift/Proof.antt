@@ -1,0 +1,93 @@
+-- `blocks::transform::unlift` meets its contract: each step is what its callee ensures of it.
+use Rattle.blocks.specs.Four.{unlift}
+use borrow.Author.Needs.{needs}
+use Rattle.blocks.proofs.transform.unlift.Statement.{statement}
+use Rattle.blocks.proofs.transform.unlift.Tie as tie
+use Rattle.blocks.proofs.transform.unlift.Reads as reads
+use Rattle.blocks.proofs.transform.unlift.Lts as lts
+use Rattle.blocks.proofs.transform.twice_less.Reads as twice-less-reads
+use Rattle.words.proofs.half.Reads as half-reads
+use Rattle.words.proofs.minus.Reads as minus-reads
+use Rattle.words.proofs.plus.Reads as plus-reads
+
+array-read-plus : tie.Need-array-read-plus
+array-read-plus c = search needs
+
+array-read-half : tie.Need-array-read-half
+array-read-half c = search needs
+
+half-requires : tie.Need-half-requires
+half-requires c κs = search needs
+
+plus-requires : tie.Need-plus-requires
+plus-requires c κs = search needs
+
+array-read-minus : tie.Need-array-read-minus
+array-read-minus c = search needs
+
+half-requires-2 : tie.Need-half-requires-2
+half-requires-2 c κs = search needs
+
+minus-requires : tie.Need-minus-requires
+minus-requires c κs = search needs
+
+plus-requires-2 : tie.Need-plus-requires-2
+plus-requires-2 c κs = search needs
+
+twice-less-requires : tie.Need-twice-less-requires
+twice-less-requires c κs = search needs
+
+array-read-plus-2 : tie.Need-array-read-plus-2
+array-read-plus-2 c = search needs
+
+array-read-plus-3 : tie.Need-array-read-plus-3
+array-read-plus-3 c = search needs
+
+plus-requires-3 : tie.Need-plus-requires-3
+plus-requires-3 c κs = search needs
+
+array-read-twice-less : tie.Need-array-read-twice-less
+array-read-twice-less c = search needs
+
+twice-less-requires-2 : tie.Need-twice-less-requires-2
+twice-less-requires-2 c κs = search needs
+
+plus-requires-4 : tie.Need-plus-requires-4
+plus-requires-4 c κs = search needs
+
+twice-less-requires-3 : tie.Need-twice-less-requires-3
+twice-less-requires-3 c κs = search needs
+
+plus-requires-5 : tie.Need-plus-requires-5
+plus-requires-5 c κs = search needs
+
+twice-less-requires-4 : tie.Need-twice-less-requires-4
+twice-less-requires-4 c κs = search needs
+
+returns : tie.Need-returns
+unfolding unlift
+returns c = cc
+
+pub unlift-spec : {M : Type 1} → statement M
+unlift-spec =
+    tie.close
+    (tie.spec
+    array-read-plus
+    array-read-half
+    half-requires
+    plus-requires
+    array-read-minus
+    half-requires-2
+    minus-requires
+    plus-requires-2
+    twice-less-requires
+    array-read-plus-2
+    array-read-plus-3
+    plus-requires-3
+    array-read-twice-less
+    twice-less-requires-2
+    plus-requires-4
+    twice-less-requires-3
+    plus-requires-5
+    twice-less-requires-4
+    returns)

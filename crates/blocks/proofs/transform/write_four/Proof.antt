@@ -1,0 +1,23 @@
+-- `blocks::transform::write_four` meets its contract: the mode picks the transform.
+use borrow.Author.Needs.{needs}
+use Rattle.blocks.proofs.transform.write_four.Statement.{statement}
+use Rattle.blocks.proofs.transform.write_four.Tie as tie
+use Rattle.blocks.proofs.transform.write_four.Reads as reads
+use Rattle.blocks.proofs.transform.write_four.Lts as lts
+use Rattle.blocks.proofs.transform.differ.Reads as differ-reads
+use Rattle.blocks.proofs.transform.lift.Reads as lift-reads
+
+differ-requires : tie.Need-differ-requires
+differ-requires c κs = search needs
+
+lift-requires : tie.Need-lift-requires
+lift-requires c κs = search needs
+
+returns : tie.Need-returns
+returns c = cc
+
+returns-2 : tie.Need-returns-2
+returns-2 c = cc
+
+pub write-four-spec : {M : Type 1} → statement M
+write-four-spec = tie.close (tie.spec differ-requires lift-requires returns returns-2)

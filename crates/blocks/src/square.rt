@@ -1,0 +1,78 @@
+// A block of dimension 2, four rows of four values by value: its rows and columns, and its flat form.
+use crate::transform::read_four;
+use crate::transform::write_four;
+ghost use mathlib.Core.Path.{_≡_};
+ghost use lib.ListN.{length};
+ghost use Rattle.blocks.specs.Four.{writing, reading};
+ghost use Rattle.blocks.specs.Axes.{forward, backward};
+ghost use Rattle.blocks.specs.Square.{flat, eachRow, transposed};
+
+fn write_rows(b: [[u32; 4]; 4], exact: bool) -> [[u32; 4]; 4]
+    ensures { λ r. ⌜ r ≡ eachRow (writing 32 exact) b ⌝ }
+{
+    [
+        write_four(b[0], exact),
+        write_four(b[1], exact),
+        write_four(b[2], exact),
+        write_four(b[3], exact),
+    ]
+}
+
+fn read_rows(b: [[u32; 4]; 4], exact: bool) -> [[u32; 4]; 4]
+    ensures { λ r. ⌜ r ≡ eachRow (reading 32 exact) b ⌝ }
+{
+    [
+        read_four(b[0], exact),
+        read_four(b[1], exact),
+        read_four(b[2], exact),
+        read_four(b[3], exact),
+    ]
+}
+
+fn transpose(b: [[u32; 4]; 4]) -> [[u32; 4]; 4]
+    ensures { λ r. ⌜ r ≡ transposed b ⌝ }
+{
+    [
+        [b[0][0], b[1][0], b[2][0], b[3][0]],
+        [b[0][1], b[1][1], b[2][1], b[3][1]],
+        [b[0][2], b[1][2], b[2][2], b[3][2]],
+        [b[0][3], b[1][3], b[2][3], b[3][3]],
+    ]
+}
+
+// The rows, then the columns.
+pub fn write_square(b: [[u32; 4]; 4], exact: bool) -> [[u32; 4]; 4]
+    ensures { λ r. ⌜ flat r ≡ forward 32 exact 2 (flat b) ⌝ }
+{
+    transpose(write_rows(transpose(write_rows(b, exact)), exact))
+}
+
+// The columns, then the rows.
+pub fn read_square(b: [[u32; 4]; 4], exact: bool) -> [[u32; 4]; 4]
+    ensures { λ r. ⌜ flat r ≡ backward 32 exact 2 (flat b) ⌝ }
+{
+    read_rows(transpose(read_rows(transpose(b), exact)), exact)
+}
+
+// Sixteen words as four rows.
+pub fn square_of(words: &[u32]) -> [[u32; 4]; 4]
+    requires { ⌜ length (now words) ≡ 16 ⌝ }
+    ensures { λ r. ⌜ flat r ≡ now (words .entry) ⌝ }
+{
+    [
+        [words[0], words[1], words[2], words[3]],
+        [words[4], words[5], words[6], words[7]],
+        [words[8], words[9], words[10], words[11]],
+        [words[12], words[13], words[14], words[15]],
+    ]
+}
+
+// Four rows as sixteen words.
+pub fn flat_of(b: [[u32; 4]; 4]) -> [u32; 16]
+    ensures { λ r. ⌜ r ≡ flat b ⌝ }
+{
+    [
+        b[0][0], b[0][1], b[0][2], b[0][3], b[1][0], b[1][1], b[1][2], b[1][3], b[2][0], b[2][1], b[2][2], b[2][3], b[3][0], b[3][1],
+        b[3][2], b[3][3],
+    ]
+}
