@@ -50,12 +50,14 @@ module _ (k : ℕ) where
       let w₁ = minus k w z in
       let z₁ = minus k z y in
       let y₁ = minus k y x in
-      rw (plus-minus k (minus k w₁ z₁) (minus k z₁ y₁) (minus-lt k _ _) (minus-lt k _ _),
-          plus-minus k z₁ y₁ (minus-lt k _ _) (minus-lt k _ _),
-          plus-minus k w₁ z₁ (minus-lt k _ _) (minus-lt k _ _),
-          plus-minus k y x hy hx,
-          plus-minus k z y hz hy,
-          plus-minus k w z hw hz)
+      rw (
+        plus-minus k (minus k w₁ z₁) (minus k z₁ y₁) (minus-lt k _ _) (minus-lt k _ _),
+        plus-minus k z₁ y₁ (minus-lt k _ _) (minus-lt k _ _),
+        plus-minus k w₁ z₁ (minus-lt k _ _) (minus-lt k _ _),
+        plus-minus k y x hy hx,
+        plus-minus k z y hz hy,
+        plus-minus k w z hw hz,
+      )
 
   pub differ-undiffer : Undoes k (differ k) (undiffer k)
   unfolding differ undiffer
@@ -65,12 +67,14 @@ module _ (k : ℕ) where
       let w₂ = plus k w₁ z₁ in
       let y₁ = plus k y x in
       let z₂ = plus k z₁ y₁ in
-      rw (minus-plus k w₂ z₂ (plus-lt k _ _) (plus-lt k _ _),
-          minus-plus k z₁ y₁ (plus-lt k _ _) (plus-lt k _ _),
-          minus-plus k y x hy hx,
-          minus-plus k w₁ z₁ (plus-lt k _ _) (plus-lt k _ _),
-          minus-plus k z y hz hy,
-          minus-plus k w z hw hz)
+      rw (
+        minus-plus k w₂ z₂ (plus-lt k _ _) (plus-lt k _ _),
+        minus-plus k z₁ y₁ (plus-lt k _ _) (plus-lt k _ _),
+        minus-plus k y x hy hx,
+        minus-plus k w₁ z₁ (plus-lt k _ _) (plus-lt k _ _),
+        minus-plus k z y hz hy,
+        minus-plus k w z hw hz,
+      )
 
 pub keeps-writing : (k : ℕ) → 0 < k → (exact : Bool) → Keeps k (writing k exact)
 keeps-writing k some true = keeps-differ k

@@ -39,7 +39,7 @@ permutation n t e =
     record {
       long = eqb-true (length t) n (p .0);
       inside = λ k h. ltb-true (getD t k 0) n (each n _ (q .0) k h);
-      once = λ i h. eqb-true (count i t) 1 (each n _ (q .1) i h)
+      once = λ i h. eqb-true (count i t) 1 (each n _ (q .1) i h);
     }
 
 -- an entry that the table has

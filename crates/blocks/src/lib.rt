@@ -2,6 +2,7 @@
 mod arrange;
 mod square;
 mod transform;
+
 use crate::arrange::arranged;
 use crate::arrange::placed;
 use crate::square::flat_of;
@@ -29,7 +30,10 @@ pub fn coefficients4(words: &[u32], exact: bool) -> [u32; 4]
 pub fn values4(cs: [u32; 4], exact: bool) -> [u32; 4]
     ensures { λ r. ⌜ r ≡ values 32 exact 1 cs ⌝ }
 {
-    read_four([unnega(cs[0]), unnega(cs[1]), unnega(cs[2]), unnega(cs[3])], exact)
+    read_four(
+        [unnega(cs[0]), unnega(cs[1]), unnega(cs[2]), unnega(cs[3])],
+        exact,
+    )
 }
 
 // The coefficients of a block of dimension 2.

@@ -1,13 +1,12 @@
 -- How long an exact code can get, over the number of words and the word size, from the one bound on its planes.
-use mathlib.Core.Path.{_≡_, refl, sym, ap, _∙_}
+use mathlib.Core.Path.{_≡_}
 use mathlib.Core.Bool.{Bool, true, false, cond}
 use mathlib.Core.List.{List, [], _∷_, _++_, map}
-use Prim.Native.Nat.{ℕ, zero, suc, _+_, _-_, _*_, _^_, _≤_, _<_}
+use Prim.Native.Nat.{ℕ, zero, suc, _+_, _-_, _*_, _^_, _≤_}
 use native.Mathlib.Nat.{mul-le-mul-left, pow-suc}
 use native.Mathlib.Omega.{arith}
-use lib.Ieee.{Format, binary32, binary64}
+use lib.Ieee.{Format}
 use lib.ListN.{length, length-append}
-use lib.Pow.{pow-pos}
 use Rattle.bits.specs.Stream.{numberBits}
 use Rattle.bits.proofs.NumberLaws.{length-numberBits}
 use Rattle.words.specs.Word.{flip}

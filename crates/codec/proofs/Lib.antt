@@ -5,3 +5,4 @@ pub mod Trips
 pub mod Lengths
 pub mod Longest
 pub mod Budget
+pub mod Writing

@@ -1,18 +1,18 @@
 -- The bound on exact integer codes is met, for each dimension: by the block whose coefficients are all ones.
-use mathlib.Core.Path.{_≡_, refl, sym, ap, ap₂, _∙_}
-use mathlib.Core.Bool.{Bool, true, _||_}
-use mathlib.Core.List.{List, _∷_, _++_}
-use Prim.Native.Nat.{ℕ, zero, suc, _+_, _-_, _*_, _^_, _≤_, _<_}
+use mathlib.Core.Path.{_≡_, refl, ap, ap₂, _∙_}
+use mathlib.Core.Bool.{true}
+use mathlib.Core.List.{List}
+use Prim.Native.Nat.{ℕ, zero, suc, _+_, _-_, _*_, _^_, _≤_}
 use native.Mathlib.Omega.{arith}
 use lib.Ieee.{Format}
 use lib.ListN.{length, replicate, length-append, length-replicate}
 use Rattle.bits.specs.Stream.{numberBits}
 use Rattle.bits.proofs.NumberLaws.{length-numberBits}
-use Rattle.planes.specs.Coder.{plane, any, planesCode}
+use Rattle.planes.specs.Coder.{any}
 use Rattle.planes.proofs.Tight.{onesOf, onesOf-code, onesOf-below, ones-plane}
 use Rattle.planes.proofs.Words.{at-below}
 use Rattle.blocks.specs.Order.{order, inOrder}
-use Rattle.blocks.specs.Coefficients.{coefficients, values}
+use Rattle.blocks.specs.Coefficients.{values}
 use Rattle.blocks.proofs.Whole.{words-values, length-values, coefficients-values}
 use Rattle.blocks.proofs.Lists.{Words}
 use Rattle.floats.specs.Pattern.{wordSize}

@@ -1,8 +1,8 @@
 -- The count of planes that an exact code has: it is from 1 to the word size, all lower planes are zero, and no smaller count has that.
-use mathlib.Core.Path.{_≡_, refl, sym, _∙_}
+use mathlib.Core.Path.{_≡_, refl, sym, ap, _∙_}
 use mathlib.Core.Bool.{Bool, true, false, cond, true≢false}
 use mathlib.Core.List.{List}
-use Prim.Native.Nat.{ℕ, zero, suc, _-_, _≤_}
+use Prim.Native.Nat.{ℕ, zero, suc, _-_, _≤_, _<_}
 use native.Mathlib.Decide.{decLe}
 use native.Mathlib.Omega.{arith}
 use Rattle.planes.specs.Coder.{plane, any}
@@ -62,3 +62,21 @@ module _ (w : ℕ) (us : List ℕ) where
       go : (p : ℕ) → 1 ≤ p → leastPlanes p p us ≡ p
       go zero k = absurd (omega arith)
       go (suc p) k = let z : suc p - suc p ≡ 0 = omega arith in rw (z, e)
+
+-- a search from the lowest plane up
+module _ (w p : ℕ) (us : List ℕ) (some : 0 < p) where
+  step : leastPlanes w p us ≡ cond (any (plane (w - p) us)) p (leastPlanes w (p - 1) us)
+  step = let e : p ≡ suc (p - 1) = omega arith in ap (λ (n : ℕ). leastPlanes w n us) e ∙ ap (λ (n : ℕ). cond (any (plane (w - n) us)) n (leastPlanes w (p - 1) us)) (sym e)
+
+  pub least-found : any (plane (w - p) us) ≡ true → leastPlanes w p us ≡ p
+  least-found h = step ∙ rw h
+
+  pub least-next : any (plane (w - p) us) ≡ false → leastPlanes w p us ≡ leastPlanes w (p - 1) us
+  least-next h = step ∙ rw h
+
+pub least-one : (w : ℕ) (us : List ℕ) → leastPlanes w 1 us ≡ 1
+least-one w us = go (any (plane (w - 1) us))
+  where
+    go : (b : Bool) → _≡_ {A = ℕ} (cond b 1 1) 1
+    go true = refl
+    go false = refl

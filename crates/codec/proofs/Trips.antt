@@ -2,7 +2,7 @@
 use mathlib.Core.Path.{_≡_, refl, sym, ap, _∙_}
 use mathlib.Core.Bool.{Bool, true, false, cond, false≢true}
 use mathlib.Core.List.{List, [], _∷_, _++_, map, append-assoc}
-use Prim.Native.Nat.{ℕ, zero, suc, _+_, _-_, _^_, _≤_, _<_}
+use Prim.Native.Nat.{ℕ, zero, suc, _-_, _^_, _≤_, _<_}
 use native.Mathlib.Omega.{arith}
 use lib.Dec.{eqb·suc-zero}
 use lib.Ieee.{Format, binary32, binary64}
@@ -18,11 +18,11 @@ use Rattle.planes.specs.Reader.{readWords}
 use Rattle.planes.proofs.Back.{words-back}
 use Rattle.planes.proofs.Words.{below-at}
 use Rattle.blocks.specs.Order.{order, inOrder}
-use Rattle.blocks.specs.Coefficients.{coefficients, values}
-use Rattle.blocks.proofs.Lists.{Words, words-map, map-back}
+use Rattle.blocks.specs.Coefficients.{coefficients}
+use Rattle.blocks.proofs.Lists.{Words, map-back}
 use Rattle.blocks.proofs.Whole.{words-coefficients, length-coefficients, values-coefficients}
 use Rattle.floats.specs.Pattern.{wordSize}
-use Rattle.floats.specs.Integer.{toInteger, toPattern}
+use Rattle.floats.specs.Integer.{toInteger}
 use Rattle.floats.specs.Block.{blockExponent, anySpecial, allZero, allWhole}
 use Rattle.floats.proofs.Blocks.{return-block, whole-none-special, largest-lt, fields-ready}
 use Rattle.floats.proofs.Return.{integer-lt}

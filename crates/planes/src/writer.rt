@@ -3,7 +3,7 @@ ghost use mathlib.Core.Path.{_≡_};
 ghost use Prim.Native.Nat.{_+_, _-_, _*_, _^_, _≤_, _<_};
 ghost use lib.ListN.{length, getD, take, drop};
 ghost use Rattle.bits.specs.Stream.{bit, bitsOf, Written};
-ghost use Rattle.planes.specs.Coder.{plane, onesEnd, scan, test, scanMoves, planeCode, planeNext, planesCode};
+ghost use Rattle.planes.specs.Coder.{plane, any, onesEnd, scan, test, scanMoves, planeCode, planeNext, planesCode};
 ghost use Rattle.planes.specs.Advanced.{Advanced};
 use bits::Cursor;
 
@@ -39,6 +39,14 @@ fn ones_end(words: &[u32], k: u32) -> usize
         i -= 1;
     }
     0
+}
+
+// Whether plane k has a one.
+pub fn any_one(words: &[u32], k: u32) -> bool
+    requires { ⌜ k < 32 ⌝ }
+    ensures { λ r. ⌜ r ≡ any (plane k (now (words .entry))) ⌝ }
+{
+    0 < ones_end(words, k)
 }
 
 // The test at place n: is any bit from there on a one? A 1 is followed by a scan.

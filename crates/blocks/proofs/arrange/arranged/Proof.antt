@@ -50,10 +50,12 @@ loop-less c = search needs
 
 loop-again : tie.Need-loop-again Inv-loop μ-loop
 loop-again c =
-    let s = c .before .before .before in
-    (search needs, simp length-set (omega arith),
-    fill-more _ _ (s .loop .out) (s .loop .k) (s .loop .k) (c .nega .result) refl
-    (c .nega .ensures ∙ ap (λ (p : ℕ). nega 32 (getD (s .before .args .t1) p 0)) (c .before .place .ensures .0)) (omega arith) (λ i h e. omega arith) (s .loop .inv .2))
+    let s = c .before .before .before in (
+      search needs,
+      simp length-set (omega arith),
+      fill-more _ _ (s .loop .out) (s .loop .k) (s .loop .k) (c .nega .result) refl
+          (c .nega .ensures ∙ ap (λ (p : ℕ). nega 32 (getD (s .before .args .t1) p 0)) (c .before .place .ensures .0)) (omega arith) (λ i h e. omega arith) (s .loop .inv .2),
+    )
 
 returns : tie.Need-returns Inv-loop μ-loop
 returns c =

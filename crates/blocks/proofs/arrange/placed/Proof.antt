@@ -50,10 +50,12 @@ loop-less c = search needs
 
 loop-again : tie.Need-loop-again Inv-loop μ-loop
 loop-again c =
-    let s = c .before .before .before in
-    (search needs, simp length-set (omega arith),
-    fill-more _ _ (s .loop .out) (s .loop .k) (c .place .result) (c .before .unnega .result) (c .place .ensures .0) (c .before .unnega .ensures) (omega arith)
-    (λ i h e. entries-apart 16 (order 2) square-places i (s .loop .k) h (omega arith) (e ∙ c .place .ensures .0)) (s .loop .inv .2))
+    let s = c .before .before .before in (
+      search needs,
+      simp length-set (omega arith),
+      fill-more _ _ (s .loop .out) (s .loop .k) (c .place .result) (c .before .unnega .result) (c .place .ensures .0) (c .before .unnega .ensures) (omega arith)
+          (λ i h e. entries-apart 16 (order 2) square-places i (s .loop .k) h (omega arith) (e ∙ c .place .ensures .0)) (s .loop .inv .2),
+    )
 
 returns : tie.Need-returns Inv-loop μ-loop
 returns c =

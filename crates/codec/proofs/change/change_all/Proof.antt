@@ -1,7 +1,7 @@
 -- The words passed are changed, the others are as they were. Assumes nothing.
 use borrow.Author.Needs.{needs}
 use Rattle.codec.proofs.Maps.{fronted, fronted-at, fronted-next, fronted-all}
-use Rattle.codec.specs.Change.{changed, readyWord}
+use Rattle.codec.specs.Change.{changed}
 use lib.ListN.{length, getD, set, length-set, length-map}
 use mathlib.Core.List.{List, map}
 use Rattle.blocks.proofs.Lists.{getD-map-in}
@@ -10,9 +10,6 @@ use Prim.Native.Nat.{ℕ, _≤_, _-_}
 use mathlib.Core.Path.{_≡_, refl, sym, ap, _∙_}
 use Rattle.codec.proofs.change.change_all.Statement.{statement}
 use Rattle.codec.proofs.change.change_all.Tie as tie
-use Rattle.codec.proofs.change.change_all.Reads as reads
-use Rattle.codec.proofs.change.change_all.Lts as lts
-use Rattle.codec.proofs.change.change_word.Reads as change-word-reads
 
 abbrev Inv-loop : tie.InvT-loop
 Inv-loop how words₀ i₀ words i = (i ≤ length words₀) × (length words ≡ length words₀) × (words ≡ fronted i (map (changed how) words₀) words₀)
@@ -55,12 +52,11 @@ loop-again c =
     let f = changed (s .args .how) in
     let ws = s .args .words .now in
     let long = length-map ws f in
-    let here : getD (l .words) (l .i) 0 ≡ getD ws (l .i) 0 = rw (l .inv .2) (fronted-at (l .i) (map f ws) ws (omega arith)) in
-    (
+    let here : getD (l .words) (l .i) 0 ≡ getD ws (l .i) 0 = rw (l .inv .2) (fronted-at (l .i) (map f ws) ws (omega arith)) in (
       search needs,
       simp length-set (l .inv .1),
       ap (λ (x : List ℕ). set x (l .i) (c .change-word .result)) (l .inv .2)
-      ∙ fronted-next (l .i) (c .change-word .result) (map f ws) ws (omega arith) (omega arith) (c .change-word .ensures ∙ ap f here ∙ sym (getD-map-in f ws (l .i) (omega arith))),
+          ∙ fronted-next (l .i) (c .change-word .result) (map f ws) ws (omega arith) (omega arith) (c .change-word .ensures ∙ ap f here ∙ sym (getD-map-in f ws (l .i) (omega arith))),
     )
 
 same-length : tie.Need-same-length Inv-loop μ-loop

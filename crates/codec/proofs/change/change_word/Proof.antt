@@ -1,14 +1,7 @@
 -- By cases, each as its own leaf says. Assumes nothing.
-use Rattle.codec.specs.Change.{changed, readyWord}
-use mathlib.Core.Path.{_≡_, sym, ap, _∙_}
 use borrow.Author.Needs.{needs}
 use Rattle.codec.proofs.change.change_word.Statement.{statement}
 use Rattle.codec.proofs.change.change_word.Tie as tie
-use Rattle.codec.proofs.change.change_word.Reads as reads
-use Rattle.codec.proofs.change.change_word.Lts as lts
-use Rattle.floats.proofs.to_integer.Reads as to-integer-reads
-use Rattle.floats.proofs.to_pattern.Reads as to-pattern-reads
-use Rattle.words.proofs.flip.Reads as flip-reads
 
 enum-known-how : tie.Need-enum-known-how
 enum-known-how c = search needs

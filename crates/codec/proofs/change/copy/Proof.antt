@@ -3,14 +3,11 @@ use borrow.Author.Needs.{needs}
 use Rattle.codec.proofs.Maps.{fronted, fronted-next, fronted-all}
 use lib.ListN.{length, getD, set, length-set}
 use native.Mathlib.Omega.{arith}
-use native.Mathlib.Numerals.{add-one}
 use Prim.Native.Nat.{ℕ, _≤_, _-_}
 use mathlib.Core.List.{List}
-use mathlib.Core.Path.{_≡_, refl, sym, ap, _∙_}
+use mathlib.Core.Path.{_≡_, refl, ap, _∙_}
 use Rattle.codec.proofs.change.copy.Statement.{statement}
 use Rattle.codec.proofs.change.copy.Tie as tie
-use Rattle.codec.proofs.change.copy.Reads as reads
-use Rattle.codec.proofs.change.copy.Lts as lts
 
 abbrev Inv-loop : tie.InvT-loop
 Inv-loop from to₀ i₀ to i = (i ≤ length from) × (length to ≡ length to₀) × (to ≡ fronted i from to₀)
@@ -42,12 +39,11 @@ loop-less c = search needs
 loop-again : tie.Need-loop-again Inv-loop μ-loop
 loop-again c =
     let l = c .before .before .loop in
-    let s = c .before .before .before in
-    (
+    let s = c .before .before .before in (
       search needs,
       simp length-set (l .inv .1),
       ap (λ (x : List ℕ). set x (l .i) (getD (s .args .from .now) (l .i) 0)) (l .inv .2)
-      ∙ fronted-next (l .i) (getD (s .args .from .now) (l .i) 0) (s .args .from .now) (s .args .to .now) (omega arith) (omega arith) refl,
+          ∙ fronted-next (l .i) (getD (s .args .from .now) (l .i) 0) (s .args .from .now) (s .args .to .now) (omega arith) (omega arith) refl,
     )
 
 same-length : tie.Need-same-length Inv-loop μ-loop

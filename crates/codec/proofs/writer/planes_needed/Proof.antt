@@ -1,0 +1,65 @@
+-- The invariant: no plane below the p top ones has a one. Assumes nothing.
+use borrow.Author.Needs.{needs}
+use Rattle.codec.proofs.Needed.{least-found, least-next, least-one}
+use Rattle.codec.specs.Head.{leastPlanes, planesNeeded}
+use native.Mathlib.Omega.{arith}
+use Prim.Native.Nat.{ℕ, _≤_}
+use mathlib.Core.Path.{_≡_, refl, sym, ap, _∙_}
+use Rattle.codec.proofs.writer.planes_needed.Statement.{statement}
+use Rattle.codec.proofs.writer.planes_needed.Tie as tie
+
+abbrev Inv-loop : tie.InvT-loop
+Inv-loop us p₀ p = (1 ≤ p) × (p ≤ 32) × (leastPlanes 32 p us ≡ planesNeeded 32 us)
+
+abbrev μ-loop : tie.MeasureT-loop
+μ-loop us p₀ p = p
+
+loop-holds : tie.Need-loop-holds Inv-loop μ-loop
+unfolding planesNeeded
+loop-holds c = (search needs, search needs, refl)
+
+sub-any-one : tie.Need-sub-any-one Inv-loop μ-loop
+sub-any-one c = search needs
+
+any-one-requires : tie.Need-any-one-requires Inv-loop μ-loop
+any-one-requires c κs = search needs
+
+returns : tie.Need-returns Inv-loop μ-loop
+returns c =
+    let l = c .before .before .before .loop in
+    let us = c .before .before .before .before .before .args .us .now in
+    sym (sym (l .inv .2) ∙ least-found 32 (l .p) us (omega arith) (sym (c .before .any-one .ensures) ∙ c .if1 .taken))
+
+sub-p : tie.Need-sub-p Inv-loop μ-loop
+sub-p c = search needs
+
+loop-less : tie.Need-loop-less Inv-loop μ-loop
+loop-less c = search needs
+
+loop-again : tie.Need-loop-again Inv-loop μ-loop
+loop-again c =
+    let l = c .before .before .before .loop in
+    let us = c .before .before .before .before .before .args .us .now in
+    (search needs, search needs, sym (least-next 32 (l .p) us (omega arith) (sym (c .before .any-one .ensures) ∙ c .if1 .left)) ∙ l .inv .2)
+
+returns-2 : tie.Need-returns-2 Inv-loop μ-loop
+returns-2 c =
+    let l = c .before .loop in
+    let us = c .before .before .before .args .us .now in
+    let e : l .p ≡ 1 = omega arith in
+    sym (sym (l .inv .2) ∙ ap (λ (n : ℕ). leastPlanes 32 n us) e ∙ least-one 32 us)
+
+pub planes-needed-spec : {M : Type 1} → statement M
+planes-needed-spec =
+    tie.close
+    (tie.spec
+    Inv-loop
+    μ-loop
+    loop-holds
+    sub-any-one
+    any-one-requires
+    returns
+    sub-p
+    loop-less
+    loop-again
+    returns-2)
