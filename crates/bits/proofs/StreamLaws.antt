@@ -6,9 +6,9 @@ use Prim.Native.Nat.{ℕ, zero, suc, _+_, _-_, _*_, _/_, _%_, _^_, _≤_, _<_}
 use native.Mathlib.Nat.{zero-add, suc-add}
 use native.Mathlib.Omega.{arith}
 use lib.ListN.{length, getD, set, take, drop, length-append, List·getD-append}
-use lib.Seq.{sets, set-append-left, length-sets, getD-append-add, take-append-seam, drop-append-seam, slice, slice-cons, slice-empty}
+use lib.Seq.{sets, set-append-left, length-sets, getD-append-add, take-append-seam, drop-append-seam, slice, slice-cons, slice-empty, length-slice, take-nil, take-take, drop-drop}
 use Rattle.bits.specs.Stream.{bit, digit, numberBits, numberOf, bitsOf, withBits}
-use Rattle.bits.proofs.NumberLaws.{length-numberBits, getD-numberBits, number-back, withBits-bits}
+use Rattle.bits.proofs.NumberLaws.{length-numberBits, getD-numberBits, number-back, numberOf-lt, withBits-bits}
 
 pub length-bitsOf : (l : List ℕ) → length (bitsOf l) ≡ 8 * length l
 length-bitsOf [] = refl
@@ -101,3 +101,21 @@ pub number-next : (d : List Bool) (at i end n : ℕ) → 0 < i → at + i ≤ en
 number-next d at i end n p h k e =
     let f : i - 1 + 1 ≡ i = omega arith in
     rw (slice-next d at (i - 1) end (omega arith) k, f, e)
+
+-- the first k bits of a range, and those after them
+drop-take : (n m : ℕ) (l : List Bool) → drop n (take (n + m) l) ≡ take m (drop n l)
+drop-take zero m l = rw zero-add
+drop-take (suc n) m [] = rw (suc-add, take-nil m)
+drop-take (suc n) m (x ∷ l) = rw suc-add (drop-take n m l)
+
+pub slice-first : (d : List Bool) (at k end : ℕ) → at + k ≤ end → slice at (at + k) d ≡ take k (slice at end d)
+slice-first d at k end h = ap (drop at) (sym (take-take (at + k) end d h)) ∙ drop-take at k (take end d)
+
+pub slice-rest : (d : List Bool) (at k end : ℕ) → slice (at + k) end d ≡ drop k (slice at end d)
+slice-rest d at k end = sym (drop-drop k at (take end d))
+
+-- a number of k bits is below 2 ^ k
+pub number-lt : (d : List Bool) (at k : ℕ) → at + k ≤ length d → numberOf (slice at (at + k) d) < 2 ^ k
+number-lt d at k h =
+    let e : length (slice at (at + k) d) ≡ k = length-slice at (at + k) d h ∙ omega arith in
+    rw e at (numberOf-lt (slice at (at + k) d))

@@ -6,3 +6,4 @@ pub mod Lengths
 pub mod Longest
 pub mod Budget
 pub mod Writing
+pub mod Reading

@@ -27,8 +27,8 @@ use Rattle.floats.specs.Block.{blockExponent, anySpecial, allZero, allWhole}
 use Rattle.floats.proofs.Blocks.{return-block, whole-none-special, largest-lt, fields-ready}
 use Rattle.floats.proofs.Return.{integer-lt}
 use Rattle.codec.specs.Head.{planesNeeded, countBits, fieldBits, exactPlanes}
-use Rattle.codec.specs.Code.{exactIntegers, exactFloats}
-use Rattle.codec.specs.Read.{readExactIntegers, readExactFloats, scaledBy}
+use Rattle.codec.specs.Code.{exactIntegers, exactFloats, definedCode}
+use Rattle.codec.specs.Read.{readIntegers, readExactFloats, scaledBy, readCode}
 use Rattle.codec.proofs.Needed.{needed-range, needed-low}
 
 -- a number in front of a code is read back, and what follows it is left
@@ -57,9 +57,9 @@ module _ (f : Format) (us : List ℕ) (t : List Bool) (words : Words (wordSize f
       let s : suc (p - 1) ≡ p = omega arith in
       rw (append-assoc, n .0, n .1, s) (words-back w p us t (below-at w us (λ i h. words i)) (needed-low w us) (r .1))
 
-module _ (f : Format) (d : ℕ) (test : inOrder d (order d) ≡ true) where
-  pub integers-back : (ws : List ℕ) (t : List Bool) → length ws ≡ 4 ^ d → Words (wordSize f) ws → readExactIntegers f d (exactIntegers f d ws ++ t) ≡ ws
-  unfolding readExactIntegers exactIntegers
+module _ (f : Format) (d p : ℕ) (test : inOrder d (order d) ≡ true) where
+  pub integers-back : (ws : List ℕ) (t : List Bool) → length ws ≡ 4 ^ d → Words (wordSize f) ws → readIntegers f true d p (exactIntegers f d ws ++ t) ≡ ws
+  unfolding readIntegers exactIntegers
   integers-back ws t long words =
       let us = coefficients (wordSize f) true d ws in
       let n : length us ≡ 4 ^ d = length-coefficients d test (wordSize f) true ws in
@@ -88,31 +88,50 @@ words-integers f ws h =
     words-map-in (wordSize f) (toInteger f (blockExponent f ws)) ws
     (λ i l. let r = fields-ready f ws h i l in integer-lt f (blockExponent f ws) (getD ws i 0) (r .0) (r .1))
 
-module _ (f : Format) (d : ℕ) (test : inOrder d (order d) ≡ true) (ws : List ℕ) (t : List Bool) (long : length ws ≡ 4 ^ d) (words : Words (wordSize f) ws) where
+module _ (f : Format) (d p : ℕ) (test : inOrder d (order d) ≡ true) (ws : List ℕ) (t : List Bool) (long : length ws ≡ 4 ^ d) (words : Words (wordSize f) ws) where
   -- the block with the bits 1 0 in front, and the one with 1 1
   multiples-back : allWhole f (blockExponent f ws) ws ≡ true
-      → scaledBy f (readExactIntegers f d) ((numberBits (fieldBits f) (blockExponent f ws) ++ exactIntegers f d (map (toInteger f (blockExponent f ws)) ws)) ++ t) ≡ ws
+      → scaledBy f (readIntegers f true d p) ((numberBits (fieldBits f) (blockExponent f ws) ++ exactIntegers f d (map (toInteger f (blockExponent f ws)) ws)) ++ t) ≡ ws
   multiples-back h =
       let e = blockExponent f ws in
       let none = whole-none-special f e ws h in
       let ints = map (toInteger f e) ws in
       let n = number-first (fieldBits f) e (exactIntegers f d ints ++ t) (exponent-fits f ws none) in
-      rw (append-assoc, n .0, n .1, integers-back f d test ints t (length-map ws _ ∙ long) (words-integers f ws none)) (return-block f ws (λ i l. words i) h)
+      rw (append-assoc, n .0, n .1, integers-back f d p test ints t (length-map ws _ ∙ long) (words-integers f ws none)) (return-block f ws (λ i l. words i) h)
 
-  flipped-back : map (flip (wordSize f)) (readExactIntegers f d (exactIntegers f d (map (flip (wordSize f)) ws) ++ t)) ≡ ws
+  flipped-back : map (flip (wordSize f)) (readIntegers f true d p (exactIntegers f d (map (flip (wordSize f)) ws) ++ t)) ≡ ws
   flipped-back =
       let w = wordSize f in
-      rw (integers-back f d test (map (flip w) ws) t (length-map ws _ ∙ long) (words-map-in w (flip w) ws (λ i l. flip-lt w (getD ws i 0) (words i))))
+      rw (integers-back f d p test (map (flip w) ws) t (length-map ws _ ∙ long) (words-map-in w (flip w) ws (λ i l. flip-lt w (getD ws i 0) (words i))))
       (map-back w (flip w) (flip w) (λ x h. flip-flip w x) ws words)
 
-  pub floats-back : readExactFloats f d (exactFloats f d ws ++ t) ≡ ws
+  pub floats-back : readExactFloats f d p (exactFloats f d ws ++ t) ≡ ws
   unfolding exactFloats readExactFloats
   floats-back = go (allZero ws) refl (allWhole f (blockExponent f ws) ws) refl
     where
       go : (z : Bool) → allZero ws ≡ z → (a : Bool) → allWhole f (blockExponent f ws) ws ≡ a
-          → readExactFloats f d (cond z (false ∷ []) (cond a
+          → readExactFloats f d p (cond z (false ∷ []) (cond a
           (true ∷ false ∷ (numberBits (fieldBits f) (blockExponent f ws) ++ exactIntegers f d (map (toInteger f (blockExponent f ws)) ws)))
           (true ∷ true ∷ exactIntegers f d (map (flip (wordSize f)) ws))) ++ t) ≡ ws
       go true hz a ha = ap (λ (n : ℕ). replicate n 0) (sym long) ∙ sym (zeros ws hz)
       go false hz true ha = multiples-back ha
       go false hz false ha = flipped-back
+
+-- ---- of either kind
+
+module _ (f : Format) (float : Bool) (d p width : ℕ) (test : inOrder d (order d) ≡ true) where
+  -- an exact block is read back from its defined code, whatever follows it
+  pub exact-back : (ws : List ℕ) (t : List Bool) → length ws ≡ 4 ^ d → Words (wordSize f) ws
+      → readCode f float true d p (definedCode f float true d p width ws ++ t) ≡ ws
+  unfolding readCode definedCode
+  exact-back ws t long words = go float
+    where
+      go : (b : Bool)
+          → cond b (readExactFloats f d p (cond b (exactFloats f d ws) (exactIntegers f d ws) ++ t)) (readIntegers f true d p (cond b (exactFloats f d ws) (exactIntegers f d ws) ++ t)) ≡ ws
+      go true = floats-back f d p test ws t long words
+      go false = integers-back f d p test ws t long words
+
+  -- so at most one block has a given code with something after it, padding among that
+  pub one-block : (ws vs : List ℕ) (t u : List Bool) → length ws ≡ 4 ^ d → Words (wordSize f) ws → length vs ≡ 4 ^ d → Words (wordSize f) vs
+      → definedCode f float true d p width ws ++ t ≡ definedCode f float true d p width vs ++ u → ws ≡ vs
+  one-block ws vs t u lw ww lv wv e = sym (exact-back ws t lw ww) ∙ ap (readCode f float true d p) e ∙ exact-back vs u lv wv

@@ -117,7 +117,7 @@ fn read_plane(buf: &[u8], at: usize, end: usize, words: &mut [u32], k: u32, n: u
 }
 
 // All words are set to 0.
-fn clear(words: &mut [u32])
+pub fn clear(words: &mut [u32])
     ensures { λ _. ⌜ now (words .exit) ≡ replicate (length (now (words .entry))) 0 ⌝ }
 {
     let mut i = 0;
