@@ -1,14 +1,13 @@
 -- A list that a loop stores into, one place a round; and lists that are filled in, or by, the order of a table.
 use mathlib.Core.Path.{_≡_, refl, sym, ap, _∙_}
 use mathlib.Core.List.{List, map}
-use Prim.Native.Nat.{ℕ, _+_, _<_, _≤_}
-use native.Mathlib.Nat.{ne-of-lt}
+use Prim.Native.Nat.{ℕ, _+_, _<_}
 use native.Mathlib.Omega.{arith}
 use borrow.Author.Count.{below-more}
 use lib.ListN.{length, getD, set, length-map}
 use lib.Seq.{ext-getD, getD-set-same, getD-set-other}
 use Rattle.blocks.specs.Order.{entryOf, reorder, restore}
-use Rattle.blocks.proofs.Lists.{length-tabulate, getD-tabulate, getD-map-in}
+use Rattle.blocks.proofs.Lists.{getD-tabulate, getD-map-in}
 use Rattle.blocks.proofs.Tables.{Permutation, found, only, length-reorder, length-restore}
 
 -- after k rounds, of which round i put val i at the place at i
@@ -16,7 +15,8 @@ abbrev pub Filled : (ℕ → ℕ) → (ℕ → ℕ) → List ℕ → ℕ → Typ
 Filled at val out k = (i : ℕ) → i < k → getD out (at i) 0 ≡ val i
 
 -- one round more, at a place that no earlier round had
-pub fill-more : (at val : ℕ → ℕ) (out : List ℕ) (k p v : ℕ) → p ≡ at k → v ≡ val k → p < length out → ((i : ℕ) → i < k → at i ≡ p → ⊥)
+pub fill-more : (at val : ℕ → ℕ) (out : List ℕ) (k p v : ℕ) → p ≡ at k → v ≡ val k → p < length out
+    → ((i : ℕ) → i < k → at i ≡ p → ⊥)
     → Filled at val out k → Filled at val (set out p v) (k + 1)
 fill-more at val out k p v ep ev inside apart done =
     below-more _ k (λ i h. getD-set-other out p (at i) v 0 (apart i h) ∙ done i h)

@@ -1,7 +1,7 @@
 -- A transform of every line: it keeps the length and the words, and is undone line by line.
 use mathlib.Core.Path.{_≡_, refl, sym, ap, _∙_}
 use mathlib.Core.List.{List, [], _∷_}
-use Prim.Native.Nat.{ℕ, zero, suc, _+_, _-_, _*_, _/_, _%_, _^_, _≤_, _<_}
+use Prim.Native.Nat.{ℕ, zero, suc, _+_, _-_, _*_, _/_, _%_, _<_}
 use native.Mathlib.Nat.{zero-lt-suc, add-mul, add-sub-cancel, sub-add-cancel, div-add-mod', mod-lt, div-lt-iff-lt-mul}
 use native.Mathlib.Omega.{arith}
 use lib.Arith.{digits-lt, digits-div, digits-mod}
@@ -25,9 +25,9 @@ module _ (t : Transform) (s : ℕ) (ws : List ℕ) where
   unfolding along
   along-at p h = getD-tabulate (length ws) _ p 0 h
 
--- place p of lists of m * 4 lines' lengths of stride s, and the line that it is in
+-- a place p of a list of m * 4 * s values, and the line of stride s that it is in
 module _ (s m p : ℕ) (some : 0 < s) (inside : p < m * 4 * s) where
-  -- its number in the line, and the line's start
+  -- its number in the line, the line's start, and how many strides of four lines lie before it
   abbrev nth : ℕ
   nth = p / s % 4
 
@@ -74,17 +74,20 @@ pick s b ws (suc (suc (suc zero))) h = refl
 pick s b ws (suc (suc (suc (suc q)))) h = absurd (omega arith)
 
 -- where g undoes f on the words of a line, it does so on every line
-module _ (k : ℕ) (g f : Transform) (undoes : Undoes k g f) (s m : ℕ) (some : 0 < s) (ws : List ℕ) (long : length ws ≡ m * 4 * s) (words : Words k ws) where
+module _ (k : ℕ) (g f : Transform) (undoes : Undoes k g f) (s m : ℕ) (some : 0 < s)
+    (ws : List ℕ) (long : length ws ≡ m * 4 * s) (words : Words k ws) where
   line-back : (p : ℕ) → p < m * 4 * s → getD (line g s (p - p / s % 4 * s) (along f s ws)) (p / s % 4) 0 ≡ getD ws p 0
   line-back p h =
       let b = p - p / s % 4 * s in
       let a = along f s ws in
-      let e₀ : getD a b 0 ≡ getD (line f s b ws) 0 0 = ap (λ (x : ℕ). getD a x 0) (omega arith) ∙ line-at s m p some h f ws long 0 (omega arith) in
-      let e₁ : getD a (b + s) 0 ≡ getD (line f s b ws) 1 0 = ap (λ (x : ℕ). getD a x 0) (omega arith) ∙ line-at s m p some h f ws long 1 (omega arith) in
-      let e₂ = line-at s m p some h f ws long 2 (omega arith) in
-      let e₃ = line-at s m p some h f ws long 3 (omega arith) in
+      let at = line-at s m p some h f ws long in
+      let e₀ : getD a b 0 ≡ getD (line f s b ws) 0 0 = ap (λ (x : ℕ). getD a x 0) (omega arith) ∙ at 0 (omega arith) in
+      let e₁ : getD a (b + s) 0 ≡ getD (line f s b ws) 1 0 = ap (λ (x : ℕ). getD a x 0) (omega arith) ∙ at 1 (omega arith) in
+      let e₂ = at 2 (omega arith) in
+      let e₃ = at 3 (omega arith) in
       let e : line g s b a ≡ onFour g (line f s b ws) = rw (e₀, e₁, e₂, e₃) in
-      ap (λ (l : List ℕ). getD l (p / s % 4) 0) (e ∙ undoes (getD ws b 0) (getD ws (b + s) 0) (getD ws (b + 2 * s) 0) (getD ws (b + 3 * s) 0) (words _) (words _) (words _) (words _))
+      let u = undoes (getD ws b 0) (getD ws (b + s) 0) (getD ws (b + 2 * s) 0) (getD ws (b + 3 * s) 0) (words _) (words _) (words _) (words _) in
+      ap (λ (l : List ℕ). getD l (p / s % 4) 0) (e ∙ u)
       ∙ pick s b ws (p / s % 4) (mod-lt (p / s) (zero-lt-suc 3))
       ∙ ap (λ (x : ℕ). getD ws x 0) (own s m p some h)
 

@@ -1,12 +1,12 @@
 -- The transforms of four values make words of words, and the exact ones undo each other.
 use mathlib.Core.Path.{_≡_}
 use mathlib.Core.Bool.{Bool, true, false}
-use mathlib.Core.List.{List, [], _∷_}
+use mathlib.Core.List.{[], _∷_}
 use Prim.Native.Nat.{ℕ, zero, suc, _^_, _<_}
 use lib.Pow.{pow-pos}
 use Rattle.words.proofs.Sums.{plus-lt, minus-lt, plus-minus, minus-plus}
 use Rattle.words.proofs.Halves.{half-lt}
-use Rattle.words.specs.Word.{plus, minus, half}
+use Rattle.words.specs.Word.{plus, minus}
 use Rattle.blocks.specs.Four.{Transform, lift, twiceLess, unlift, differ, undiffer, writing, reading}
 use Rattle.blocks.specs.Axes.{onFour}
 use Rattle.blocks.proofs.Lists.{Words}

@@ -1,11 +1,11 @@
 -- A test of a whole table, carried to each of its entries; and a table of places in which each occurs once, there and back.
 use mathlib.Core.Path.{_≡_, refl, sym, ap, _∙_}
 use mathlib.Core.Bool.{Bool, true, false, _&&_, cond, false≢true}
-use mathlib.Core.List.{List, [], _∷_, map}
+use mathlib.Core.List.{List, [], _∷_}
 use Prim.Native.Nat.{ℕ, zero, suc, _+_, _<_, _≤_}
 use native.Mathlib.Nat.{eq-or-lt-of-le, le-of-suc-le-suc}
 use native.Mathlib.Omega.{arith}
-use mathlib.Core.Logic.{_⊎_, inl, inr}
+use mathlib.Core.Logic.{inl, inr}
 use lib.Dec.{eqb, ltb}
 use lib.ListN.{length, getD, length-map}
 use lib.Seq.{ext-getD}
@@ -63,7 +63,8 @@ only p [] k one h e = absurd (omega arith)
 only p (x ∷ t) zero one h e = rw (eq-eqb x p e)
 only p (x ∷ t) (suc k) one h e = go (eqb x p) one (only p t k)
   where
-    go : (b : Bool) → cond b 1 0 + count p t ≤ 1 → (count p t ≤ 1 → k < length t → getD t k 0 ≡ p → entryOf p t ≡ k) → cond b 0 (suc (entryOf p t)) ≡ suc k
+    go : (b : Bool) → cond b 1 0 + count p t ≤ 1
+        → (count p t ≤ 1 → k < length t → getD t k 0 ≡ p → entryOf p t ≡ k) → cond b 0 (suc (entryOf p t)) ≡ suc k
     go true l ih = absurd (omega (arith, occurs p t k (omega arith) e))
     go false l ih = ap suc (ih (omega arith) (omega arith) e)
 

@@ -50,7 +50,8 @@ module _ (w : ℕ) where
   trip-back (suc a) m ws long words =
       let read = along (undiffer w) (4 ^ a) ws in
       ap (along (differ w) (4 ^ a))
-      (trip-back a (m * 4) read (length-along (undiffer w) (4 ^ a) ws ∙ long ∙ in-lines m a) (words-along (undiffer w) (4 ^ a) ws w (keeps-undiffer w) words))
+      (trip-back a (m * 4) read
+      (length-along (undiffer w) (4 ^ a) ws ∙ long ∙ in-lines m a) (words-along (undiffer w) (4 ^ a) ws w (keeps-undiffer w) words))
       ∙ along-back w (differ w) (undiffer w) (differ-undiffer w) (4 ^ a) m (stride a) ws (long ∙ in-lines m a) words
 
   -- exact reading undoes exact writing, in every dimension

@@ -2,7 +2,7 @@
 use mathlib.Core.Path.{_≡_, ap, _∙_}
 use mathlib.Core.Bool.{Bool, true}
 use mathlib.Core.List.{List, map}
-use Prim.Native.Nat.{ℕ, _^_, _<_}
+use Prim.Native.Nat.{ℕ, _^_}
 use lib.ListN.{length, length-map}
 use Rattle.words.specs.Word.{nega, unnega}
 use Rattle.words.proofs.Negabinary.{nega-lt, unnega-lt, unnega-nega, nega-unnega}
@@ -36,7 +36,8 @@ words-values w exact d cs =
 module _ (d : ℕ) (test : inOrder d (order d) ≡ true) (w : ℕ) where
   pub length-coefficients : (exact : Bool) (ws : List ℕ) → length (coefficients w exact d ws) ≡ 4 ^ d
   unfolding coefficients
-  length-coefficients exact ws = length-map (reorder (order d) (forward w exact d ws)) _ ∙ length-reorder (order d) _ ∙ ordered d (order d) test .places .long
+  length-coefficients exact ws =
+      length-map (reorder (order d) (forward w exact d ws)) _ ∙ length-reorder (order d) _ ∙ ordered d (order d) test .places .long
 
   pub length-values : (exact : Bool) (cs : List ℕ) → length (values w exact d cs) ≡ 4 ^ d
   unfolding values

@@ -54,7 +54,8 @@ permutes n t = eqb (length t) n && (below n (λ k. ltb (getD t k 0) n) && below 
 unfoldable pub inOrder : ℕ → List ℕ → Bool
 inOrder d t = rising d t && permutes (4 ^ d) t
 
--- the places in the order of coefficients: "In dimension 2 the places are 0 1 4 5 2 8 6 9 3 12 10 7 13 11 14 15"
+-- the places in the order of coefficients: "In dimension 2 the places are 0 1 4 5 2 8 6 9 3 12 10 7 13 11 14 15".
+-- A dimension above 2 has no table
 abbrev pub order : ℕ → List ℕ
 order zero = 0 ∷ []
 order (suc zero) = 0 ∷ 1 ∷ 2 ∷ 3 ∷ []

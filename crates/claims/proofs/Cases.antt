@@ -1,16 +1,27 @@
 -- The table of cases holds: the definitions compute to what document 01 states.
 use mathlib.Core.Path.{refl}
 use Prim.Native.Nat.{ℕ}
-use Rattle.words.specs.Word.{plus, minus, nega, unnega}
-use Rattle.planes.specs.Coder.{planeCode, planeNext}
+use lib.Ieee.{ofBits, toBits, round}
+use Rattle.words.specs.Word.{plus, minus, half, nega, unnega, flip}
+use Rattle.planes.specs.Coder.{planeCode, planeNext, planesCode}
 use Rattle.planes.specs.Reader.{readPlane, readNext, readWords}
+use Rattle.blocks.specs.Four.{twiceLess, lift, unlift, differ, undiffer}
+use Rattle.blocks.specs.Axes.{along}
+use Rattle.blocks.specs.Order.{reorder, restore}
+use Rattle.blocks.specs.Coefficients.{coefficients, values}
+use Rattle.floats.specs.Integer.{signed, toInteger, scaled, toPattern, whole}
+use Rattle.codec.specs.Head.{planesNeeded, exactPlanes}
+use Rattle.codec.specs.Code.{lossyIntegers, lossyFloats, exactIntegers, exactFloats, definedCode}
+use Rattle.codec.specs.Read.{readIntegers, readLossyFloats, readExactFloats, readCode}
 use Rattle.claims.specs.Table.{Table}
 
 -- everything that the cases compute with
 unfoldable computed : ℕ
-unfolding plus minus nega unnega planeCode planeNext readPlane readNext readWords
+unfolding plus minus half twiceLess nega unnega flip planeCode planeNext planesCode readPlane readNext readWords lift unlift differ undiffer along reorder restore coefficients values
+    toInteger toPattern signed scaled whole ofBits toBits round planesNeeded exactPlanes lossyIntegers lossyFloats exactIntegers exactFloats definedCode
+    readIntegers readExactFloats readLossyFloats readCode
 computed = 0
 
 pub cases : Table
 unfolding computed
-cases = ((refl, refl), λ b. (refl, refl), (refl, refl), refl, refl)
+cases = (refl, (refl, refl), refl, refl, (refl, refl), refl, (refl, refl), λ b. (refl, refl), (refl, refl), refl, refl)

@@ -1,17 +1,53 @@
 -- Document 01's table of cases, P1 to P12, and rows of our own where its rows leave something loose: one statement each, one table of all.
 use mathlib.Core.Path.{_≡_}
-use mathlib.Core.Bool.{Bool}
-use mathlib.Core.List.{List, [], _∷_, map}
+use mathlib.Core.Bool.{Bool, true, false}
+use mathlib.Core.List.{List, [], _∷_, _++_, map}
 use Prim.Native.Nat.{ℕ, _+_, _-_, _^_}
-use lib.ListN.{replicate}
-use Rattle.bits.specs.Stream.{bit}
+use lib.Ieee.{binary32}
+use lib.ListN.{length, take, replicate}
+use Rattle.bits.specs.Stream.{bit, bitsOf}
 use Rattle.words.specs.Word.{nega, unnega}
 use Rattle.planes.specs.Coder.{planeCode, planeNext}
 use Rattle.planes.specs.Reader.{readWords}
+use Rattle.codec.specs.Code.{definedCode}
+use Rattle.codec.specs.Read.{readCode}
 
 -- bits as the cases write them, in digits 0 and 1
 abbrev pub bits : List ℕ → List Bool
 bits ds = map (bit 0) ds
+
+-- four integers, and four float patterns, in exact mode
+abbrev pub integers : List ℕ → List Bool
+integers ws = definedCode binary32 false true 1 32 0 ws
+
+abbrev pub floats : List ℕ → List Bool
+floats ws = definedCode binary32 true true 1 32 0 ws
+
+-- P1: "integers 0 0 0 0, exact: six 0 bits"
+abbrev pub P1 : Type 0
+P1 = integers (0 ∷ 0 ∷ 0 ∷ 0 ∷ []) ≡ replicate 6 false
+
+-- P2: "integers 1 1 1 1: 39 bits, the listing above", whose slot of 48 bits is 1f0000003000
+abbrev pub P2 : Type 0
+P2 = (length (integers (1 ∷ 1 ∷ 1 ∷ 1 ∷ [])) ≡ 39) × (integers (1 ∷ 1 ∷ 1 ∷ 1 ∷ []) ++ replicate 9 false ≡ bitsOf (0x1f ∷ 0 ∷ 0 ∷ 0 ∷ 0x30 ∷ 0 ∷ []))
+
+-- P3: "its second block: 136 bits, all ones"
+abbrev pub P3 : Type 0
+P3 = integers (0xaaaa_aaab ∷ 0x5555_5556 ∷ 0xaaaa_aaac ∷ 0x5555_5558 ∷ []) ≡ replicate 136 true
+
+-- P5: "four floats 1.0 (0x3F800000), exact: 21 bits, 10 00000001 01000 0 110 10"
+abbrev pub P5 : Type 0
+P5 =
+    floats (replicate 4 0x3f80_0000)
+    ≡ bits (1 ∷ 0 ∷ 0 ∷ 0 ∷ 0 ∷ 0 ∷ 0 ∷ 0 ∷ 0 ∷ 1 ∷ 0 ∷ 1 ∷ 0 ∷ 0 ∷ 0 ∷ 0 ∷ 1 ∷ 1 ∷ 0 ∷ 1 ∷ 0 ∷ [])
+
+-- P6: "four +0: one 0 bit; four -0: begins 1 1"
+abbrev pub P6 : Type 0
+P6 = (floats (replicate 4 0) ≡ false ∷ []) × (take 2 (floats (replicate 4 0x8000_0000)) ≡ true ∷ true ∷ [])
+
+-- P7: "lossy integers 1 0 0 0, P = 32, W = 131: reads 0 0 0 0"
+abbrev pub P7 : Type 0
+P7 = readCode binary32 false false 1 32 (definedCode binary32 false false 1 32 131 (1 ∷ 0 ∷ 0 ∷ 0 ∷ [])) ≡ 0 ∷ 0 ∷ 0 ∷ 0 ∷ []
 
 -- P8: "-1, 1, 2, -2 in negabinary: 3, 1, 6, 2", and back
 abbrev pub P8 : Type 0
@@ -42,4 +78,4 @@ abbrev pub CutVerbatim : Type 0
 CutVerbatim = readWords 32 4 2 (bits (replicate 9 1)) ≡ (2 ^ 31 + 2 ^ 30) ∷ (2 ^ 31 + 2 ^ 30) ∷ 2 ^ 31 ∷ 2 ^ 31 ∷ []
 
 abbrev pub Table : Type 0
-Table = P8 × P9 × CutScan × CutScanAtLast × CutVerbatim
+Table = P1 × P2 × P3 × P5 × P6 × P7 × P8 × P9 × CutScan × CutScanAtLast × CutVerbatim

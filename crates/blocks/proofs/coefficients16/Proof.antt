@@ -1,20 +1,14 @@
 -- `blocks::coefficients16` meets its contract: the words as four rows, transformed, flat again and arranged.
+use mathlib.Core.List.{List, map}
+use mathlib.Core.Path.{ap, _∙_}
+use Prim.Native.Nat.{ℕ}
+use borrow.Author.Needs.{needs}
+use Rattle.words.specs.Word.{nega}
 use Rattle.blocks.specs.Coefficients.{coefficients}
 use Rattle.blocks.specs.Order.{order, reorder}
 use Rattle.blocks.specs.Axes.{forward}
-use Rattle.words.specs.Word.{nega}
-use Prim.Native.Nat.{ℕ}
-use mathlib.Core.List.{List, map}
-use mathlib.Core.Path.{ap, _∙_}
-use borrow.Author.Needs.{needs}
 use Rattle.blocks.proofs.coefficients16.Statement.{statement}
 use Rattle.blocks.proofs.coefficients16.Tie as tie
-use Rattle.blocks.proofs.coefficients16.Reads as reads
-use Rattle.blocks.proofs.coefficients16.Lts as lts
-use Rattle.blocks.proofs.arrange.arranged.Reads as arranged-reads
-use Rattle.blocks.proofs.square.flat_of.Reads as flat-of-reads
-use Rattle.blocks.proofs.square.square_of.Reads as square-of-reads
-use Rattle.blocks.proofs.square.write_square.Reads as write-square-reads
 
 square-of-requires : tie.Need-square-of-requires
 square-of-requires c κs = search needs
@@ -34,7 +28,8 @@ returns c =
     let s = c .before .before .before .before .before in
     c .arranged .ensures
     ∙ ap (λ (l : List ℕ). map (nega 32) (reorder (order 2) l))
-    (c .before .flat-of .ensures ∙ c .before .before .write-square .ensures ∙ ap (forward 32 (s .args .exact) 2) (c .before .before .before .square-of .ensures))
+    (c .before .flat-of .ensures ∙ c .before .before .write-square .ensures
+    ∙ ap (forward 32 (s .args .exact) 2) (c .before .before .before .square-of .ensures))
 
 pub coefficients16-spec : {M : Type 1} → statement M
 coefficients16-spec =

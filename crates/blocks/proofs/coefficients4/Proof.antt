@@ -1,12 +1,8 @@
 -- `blocks::coefficients4` meets its contract: the transform of the one line, each value in negabinary.
-use Rattle.blocks.proofs.Quads.{coefficients-line}
 use borrow.Author.Needs.{needs}
+use Rattle.blocks.proofs.Quads.{coefficients-line}
 use Rattle.blocks.proofs.coefficients4.Statement.{statement}
 use Rattle.blocks.proofs.coefficients4.Tie as tie
-use Rattle.blocks.proofs.coefficients4.Reads as reads
-use Rattle.blocks.proofs.coefficients4.Lts as lts
-use Rattle.blocks.proofs.transform.write_four.Reads as write-four-reads
-use Rattle.words.proofs.nega.Reads as nega-reads
 
 shared-slice-read-t6 : tie.Need-shared-slice-read-t6
 shared-slice-read-t6 c = search needs

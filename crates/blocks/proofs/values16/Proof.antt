@@ -1,16 +1,10 @@
 -- `blocks::values16` meets its contract: the words of the coefficients at their places, as four rows, read, and flat again.
-use Rattle.blocks.specs.Coefficients.{values}
-use Rattle.blocks.specs.Axes.{backward}
 use mathlib.Core.Path.{ap, _∙_}
 use borrow.Author.Needs.{needs}
+use Rattle.blocks.specs.Coefficients.{values}
+use Rattle.blocks.specs.Axes.{backward}
 use Rattle.blocks.proofs.values16.Statement.{statement}
 use Rattle.blocks.proofs.values16.Tie as tie
-use Rattle.blocks.proofs.values16.Reads as reads
-use Rattle.blocks.proofs.values16.Lts as lts
-use Rattle.blocks.proofs.arrange.placed.Reads as placed-reads
-use Rattle.blocks.proofs.square.flat_of.Reads as flat-of-reads
-use Rattle.blocks.proofs.square.read_square.Reads as read-square-reads
-use Rattle.blocks.proofs.square.square_of.Reads as square-of-reads
 
 placed-requires : tie.Need-placed-requires
 placed-requires c κs = search needs

@@ -1,13 +1,9 @@
 -- `blocks::values4` meets its contract: the one line, read from the values of its coefficients.
-use Rattle.blocks.proofs.Quads.{values-line}
 use native.Mathlib.Omega.{arith}
 use borrow.Author.Needs.{needs}
+use Rattle.blocks.proofs.Quads.{values-line}
 use Rattle.blocks.proofs.values4.Statement.{statement}
 use Rattle.blocks.proofs.values4.Tie as tie
-use Rattle.blocks.proofs.values4.Reads as reads
-use Rattle.blocks.proofs.values4.Lts as lts
-use Rattle.blocks.proofs.transform.read_four.Reads as read-four-reads
-use Rattle.words.proofs.unnega.Reads as unnega-reads
 
 array-read-unnega : tie.Need-array-read-unnega
 array-read-unnega c = search needs

@@ -1,19 +1,15 @@
-use mathlib.Core.Path.{_≡_, refl, ap, _∙_}
 -- `blocks::arrange::arranged` meets its contract: after k rounds the first k coefficients stand.
+use mathlib.Core.Path.{_≡_, refl, ap, _∙_}
+use Prim.Native.Nat.{ℕ, _≤_, _-_}
+use native.Mathlib.Omega.{arith}
 use borrow.Author.Needs.{needs}
+use lib.ListN.{length, getD, length-set}
+use Rattle.words.specs.Word.{nega}
+use Rattle.blocks.specs.Order.{order}
 use Rattle.blocks.proofs.Orders.{square-places}
 use Rattle.blocks.proofs.Filling.{Filled, fill-more, gathered}
-use Rattle.blocks.specs.Order.{order}
-use Rattle.words.specs.Word.{nega}
-use lib.ListN.{length, getD, length-set}
-use native.Mathlib.Omega.{arith}
-use Prim.Native.Nat.{ℕ, _≤_, _-_}
 use Rattle.blocks.proofs.arrange.arranged.Statement.{statement}
 use Rattle.blocks.proofs.arrange.arranged.Tie as tie
-use Rattle.blocks.proofs.arrange.arranged.Reads as reads
-use Rattle.blocks.proofs.arrange.arranged.Lts as lts
-use Rattle.blocks.proofs.arrange.place.Reads as place-reads
-use Rattle.words.proofs.nega.Reads as nega-reads
 
 abbrev Inv-loop : tie.InvT-loop
 Inv-loop words out₀ k₀ out k = (k ≤ 16) × (length out ≡ 16) × Filled (λ i. i) (λ i. nega 32 (getD words (getD (order 2) i 0) 0)) out k
@@ -50,17 +46,18 @@ loop-less c = search needs
 
 loop-again : tie.Need-loop-again Inv-loop μ-loop
 loop-again c =
-    let s = c .before .before .before in (
+    let s = c .before .before .before in
+    let e = c .nega .ensures ∙ ap (λ (p : ℕ). nega 32 (getD (s .before .args .t1) p 0)) (c .before .place .ensures .0) in (
       search needs,
       simp length-set (omega arith),
-      fill-more _ _ (s .loop .out) (s .loop .k) (s .loop .k) (c .nega .result) refl
-          (c .nega .ensures ∙ ap (λ (p : ℕ). nega 32 (getD (s .before .args .t1) p 0)) (c .before .place .ensures .0)) (omega arith) (λ i h e. omega arith) (s .loop .inv .2),
+      fill-more _ _ (s .loop .out) (s .loop .k) (s .loop .k) (c .nega .result) refl e (omega arith) (λ i h e. omega arith) (s .loop .inv .2),
     )
 
 returns : tie.Need-returns Inv-loop μ-loop
 returns c =
-    let e : c .before .loop .k ≡ 16 = omega arith in
-    gathered (nega 32) 16 (order 2) square-places (c .before .before .args .t1) (c .before .loop .out) (c .before .loop .inv .1) (rw e at (c .before .loop .inv .2))
+    let s = c .before in
+    let e : s .loop .k ≡ 16 = omega arith in
+    gathered (nega 32) 16 (order 2) square-places (s .before .args .t1) (s .loop .out) (s .loop .inv .1) (rw e at (s .loop .inv .2))
 
 pub arranged-spec : {M : Type 1} → statement M
 arranged-spec =

@@ -1,12 +1,9 @@
 -- `blocks::arrange::place` meets its contract: the table is the order of dimension 2, whose entries are places.
-use Rattle.blocks.proofs.Orders.{square-places}
-use Rattle.blocks.proofs.Tables.{Permutation}
 use mathlib.Core.Path.{refl}
 use borrow.Author.Needs.{needs}
+use Rattle.blocks.proofs.Orders.{square-places}
 use Rattle.blocks.proofs.arrange.place.Statement.{statement}
 use Rattle.blocks.proofs.arrange.place.Tie as tie
-use Rattle.blocks.proofs.arrange.place.Reads as reads
-use Rattle.blocks.proofs.arrange.place.Lts as lts
 
 mul-result : tie.Need-mul-result
 mul-result c = search needs

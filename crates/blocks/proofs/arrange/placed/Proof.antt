@@ -1,19 +1,15 @@
-use mathlib.Core.Path.{_≡_, refl, ap, _∙_}
 -- `blocks::arrange::placed` meets its contract: after k rounds the words of the first k coefficients stand at their places, and no two share one.
+use mathlib.Core.Path.{_≡_, _∙_}
+use Prim.Native.Nat.{_≤_, _-_}
+use native.Mathlib.Omega.{arith}
 use borrow.Author.Needs.{needs}
+use lib.ListN.{length, getD, length-set}
+use Rattle.words.specs.Word.{unnega}
+use Rattle.blocks.specs.Order.{order}
 use Rattle.blocks.proofs.Orders.{square-places}
 use Rattle.blocks.proofs.Filling.{Filled, fill-more, entries-apart, scattered}
-use Rattle.blocks.specs.Order.{order}
-use Rattle.words.specs.Word.{unnega}
-use lib.ListN.{length, getD, length-set}
-use native.Mathlib.Omega.{arith}
-use Prim.Native.Nat.{ℕ, _≤_, _-_}
 use Rattle.blocks.proofs.arrange.placed.Statement.{statement}
 use Rattle.blocks.proofs.arrange.placed.Tie as tie
-use Rattle.blocks.proofs.arrange.placed.Reads as reads
-use Rattle.blocks.proofs.arrange.placed.Lts as lts
-use Rattle.blocks.proofs.arrange.place.Reads as place-reads
-use Rattle.words.proofs.unnega.Reads as unnega-reads
 
 abbrev Inv-loop : tie.InvT-loop
 Inv-loop cs out₀ k₀ out k = (k ≤ 16) × (length out ≡ 16) × Filled (λ i. getD (order 2) i 0) (λ i. unnega 32 (getD cs i 0)) out k
@@ -50,17 +46,20 @@ loop-less c = search needs
 
 loop-again : tie.Need-loop-again Inv-loop μ-loop
 loop-again c =
-    let s = c .before .before .before in (
+    let s = c .before .before .before in
+    let p = c .place .ensures .0 in
+    let v = c .before .unnega .ensures in (
       search needs,
       simp length-set (omega arith),
-      fill-more _ _ (s .loop .out) (s .loop .k) (c .place .result) (c .before .unnega .result) (c .place .ensures .0) (c .before .unnega .ensures) (omega arith)
-          (λ i h e. entries-apart 16 (order 2) square-places i (s .loop .k) h (omega arith) (e ∙ c .place .ensures .0)) (s .loop .inv .2),
+      fill-more _ _ (s .loop .out) (s .loop .k) (c .place .result) (c .before .unnega .result) p v (omega arith)
+          (λ i h e. entries-apart 16 (order 2) square-places i (s .loop .k) h (omega arith) (e ∙ p)) (s .loop .inv .2),
     )
 
 returns : tie.Need-returns Inv-loop μ-loop
 returns c =
-    let e : c .before .loop .k ≡ 16 = omega arith in
-    scattered (unnega 32) 16 (order 2) square-places (c .before .before .args .t1) (c .before .loop .out) (c .before .loop .inv .1) (omega arith) (rw e at (c .before .loop .inv .2))
+    let s = c .before in
+    let e : s .loop .k ≡ 16 = omega arith in
+    scattered (unnega 32) 16 (order 2) square-places (s .before .args .t1) (s .loop .out) (s .loop .inv .1) (omega arith) (rw e at (s .loop .inv .2))
 
 pub placed-spec : {M : Type 1} → statement M
 placed-spec =

@@ -2,9 +2,6 @@
 use borrow.Author.Needs.{needs}
 use Rattle.blocks.proofs.square.read_rows.Statement.{statement}
 use Rattle.blocks.proofs.square.read_rows.Tie as tie
-use Rattle.blocks.proofs.square.read_rows.Reads as reads
-use Rattle.blocks.proofs.square.read_rows.Lts as lts
-use Rattle.blocks.proofs.transform.read_four.Reads as read-four-reads
 
 array-copy-out-read-four : tie.Need-array-copy-out-read-four
 array-copy-out-read-four c = search needs

@@ -1,15 +1,9 @@
 -- `blocks::square::read_square` meets its contract: transposition, rows, transposition, rows are the two axes in reverse.
-use Rattle.blocks.proofs.Squares.{columns-rows}
-use Rattle.blocks.specs.Square.{flat, eachRow, transposed}
-use Rattle.blocks.specs.Four.{reading}
-use mathlib.Core.Path.{ap, _∙_}
 use borrow.Author.Needs.{needs}
+use Rattle.blocks.specs.Four.{reading}
+use Rattle.blocks.proofs.Squares.{columns-rows}
 use Rattle.blocks.proofs.square.read_square.Statement.{statement}
 use Rattle.blocks.proofs.square.read_square.Tie as tie
-use Rattle.blocks.proofs.square.read_square.Reads as reads
-use Rattle.blocks.proofs.square.read_square.Lts as lts
-use Rattle.blocks.proofs.square.read_rows.Reads as read-rows-reads
-use Rattle.blocks.proofs.square.transpose.Reads as transpose-reads
 
 transpose-requires : tie.Need-transpose-requires
 transpose-requires c κs = search needs
@@ -26,11 +20,7 @@ read-rows-requires-2 c κs = search needs
 returns : tie.Need-returns
 returns c =
     let args = c .before .before .before .before .args in
-    let rows = eachRow (reading 32 (args .exact)) in
-    ap flat
-    (c .read-rows2 .ensures
-    ∙ ap rows (c .before .transpose2 .ensures ∙ ap transposed (c .before .before .read-rows .ensures ∙ ap rows (c .before .before .before .transpose .ensures))))
-    ∙ columns-rows (reading 32 (args .exact)) (args .b)
+    cc (columns-rows (reading 32 (args .exact)) (args .b))
 
 pub read-square-spec : {M : Type 1} → statement M
 read-square-spec =

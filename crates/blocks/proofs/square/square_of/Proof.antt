@@ -1,10 +1,8 @@
 -- `blocks::square::square_of` meets its contract: a list of sixteen is its elements.
-use Rattle.blocks.proofs.Lists.{tabulate-getD}
 use borrow.Author.Needs.{needs}
+use Rattle.blocks.proofs.Lists.{tabulate-getD}
 use Rattle.blocks.proofs.square.square_of.Statement.{statement}
 use Rattle.blocks.proofs.square.square_of.Tie as tie
-use Rattle.blocks.proofs.square.square_of.Reads as reads
-use Rattle.blocks.proofs.square.square_of.Lts as lts
 
 shared-slice-read-t3 : tie.Need-shared-slice-read-t3
 shared-slice-read-t3 c = search needs
@@ -55,7 +53,9 @@ shared-slice-read-t36 : tie.Need-shared-slice-read-t36
 shared-slice-read-t36 c = search needs
 
 returns : tie.Need-returns
-returns c = tabulate-getD _ 16 (c .before .before .before .before .before .before .before .before .before .before .before .before .before .before .before .before .pre)
+returns c =
+    let s = c .before .before .before .before .before .before .before .before in
+    tabulate-getD _ 16 (s .before .before .before .before .before .before .before .before .pre)
 
 pub square-of-spec : {M : Type 1} → statement M
 square-of-spec =

@@ -2,9 +2,6 @@
 use borrow.Author.Needs.{needs}
 use Rattle.blocks.proofs.square.write_rows.Statement.{statement}
 use Rattle.blocks.proofs.square.write_rows.Tie as tie
-use Rattle.blocks.proofs.square.write_rows.Reads as reads
-use Rattle.blocks.proofs.square.write_rows.Lts as lts
-use Rattle.blocks.proofs.transform.write_four.Reads as write-four-reads
 
 array-copy-out-write-four : tie.Need-array-copy-out-write-four
 array-copy-out-write-four c = search needs

@@ -1,15 +1,9 @@
 -- `blocks::square::write_square` meets its contract: rows, transposition, rows, transposition are the two axes in their order.
-use Rattle.blocks.proofs.Squares.{rows-columns}
-use Rattle.blocks.specs.Square.{flat, eachRow, transposed}
-use Rattle.blocks.specs.Four.{writing}
-use mathlib.Core.Path.{ap, _∙_}
 use borrow.Author.Needs.{needs}
+use Rattle.blocks.specs.Four.{writing}
+use Rattle.blocks.proofs.Squares.{rows-columns}
 use Rattle.blocks.proofs.square.write_square.Statement.{statement}
 use Rattle.blocks.proofs.square.write_square.Tie as tie
-use Rattle.blocks.proofs.square.write_square.Reads as reads
-use Rattle.blocks.proofs.square.write_square.Lts as lts
-use Rattle.blocks.proofs.square.transpose.Reads as transpose-reads
-use Rattle.blocks.proofs.square.write_rows.Reads as write-rows-reads
 
 write-rows-requires : tie.Need-write-rows-requires
 write-rows-requires c κs = search needs
@@ -26,11 +20,7 @@ transpose-requires-2 c κs = search needs
 returns : tie.Need-returns
 returns c =
     let args = c .before .before .before .before .args in
-    let rows = eachRow (writing 32 (args .exact)) in
-    ap flat
-    (c .transpose2 .ensures
-    ∙ ap transposed (c .before .write-rows2 .ensures ∙ ap rows (c .before .before .transpose .ensures ∙ ap transposed (c .before .before .before .write-rows .ensures))))
-    ∙ rows-columns (writing 32 (args .exact)) (args .b)
+    cc (rows-columns (writing 32 (args .exact)) (args .b))
 
 pub write-square-spec : {M : Type 1} → statement M
 write-square-spec =

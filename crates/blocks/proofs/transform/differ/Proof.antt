@@ -1,11 +1,8 @@
 -- `blocks::transform::differ` meets its contract: each step is what `words` ensures of it.
-use Rattle.blocks.specs.Four.{differ}
 use borrow.Author.Needs.{needs}
+use Rattle.blocks.specs.Four.{differ}
 use Rattle.blocks.proofs.transform.differ.Statement.{statement}
 use Rattle.blocks.proofs.transform.differ.Tie as tie
-use Rattle.blocks.proofs.transform.differ.Reads as reads
-use Rattle.blocks.proofs.transform.differ.Lts as lts
-use Rattle.words.proofs.minus.Reads as minus-reads
 
 array-read-minus : tie.Need-array-read-minus
 array-read-minus c = search needs

@@ -1,13 +1,8 @@
 -- `blocks::transform::lift` meets its contract: each step is what `words` ensures of it.
-use Rattle.blocks.specs.Four.{lift}
 use borrow.Author.Needs.{needs}
+use Rattle.blocks.specs.Four.{lift}
 use Rattle.blocks.proofs.transform.lift.Statement.{statement}
 use Rattle.blocks.proofs.transform.lift.Tie as tie
-use Rattle.blocks.proofs.transform.lift.Reads as reads
-use Rattle.blocks.proofs.transform.lift.Lts as lts
-use Rattle.words.proofs.half.Reads as half-reads
-use Rattle.words.proofs.minus.Reads as minus-reads
-use Rattle.words.proofs.plus.Reads as plus-reads
 
 array-read-plus : tie.Need-array-read-plus
 array-read-plus c = search needs

@@ -2,10 +2,6 @@
 use borrow.Author.Needs.{needs}
 use Rattle.blocks.proofs.transform.read_four.Statement.{statement}
 use Rattle.blocks.proofs.transform.read_four.Tie as tie
-use Rattle.blocks.proofs.transform.read_four.Reads as reads
-use Rattle.blocks.proofs.transform.read_four.Lts as lts
-use Rattle.blocks.proofs.transform.undiffer.Reads as undiffer-reads
-use Rattle.blocks.proofs.transform.unlift.Reads as unlift-reads
 
 undiffer-requires : tie.Need-undiffer-requires
 undiffer-requires c κs = search needs

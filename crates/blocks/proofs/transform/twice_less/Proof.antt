@@ -1,12 +1,8 @@
 -- `blocks::transform::twice_less` meets its contract: the sum and the difference are what `words` ensures.
-use Rattle.blocks.specs.Four.{twiceLess}
 use borrow.Author.Needs.{needs}
+use Rattle.blocks.specs.Four.{twiceLess}
 use Rattle.blocks.proofs.transform.twice_less.Statement.{statement}
 use Rattle.blocks.proofs.transform.twice_less.Tie as tie
-use Rattle.blocks.proofs.transform.twice_less.Reads as reads
-use Rattle.blocks.proofs.transform.twice_less.Lts as lts
-use Rattle.words.proofs.minus.Reads as minus-reads
-use Rattle.words.proofs.plus.Reads as plus-reads
 
 plus-requires : tie.Need-plus-requires
 plus-requires c κs = search needs

@@ -1,11 +1,8 @@
 -- `blocks::transform::undiffer` meets its contract: each step is what `words` ensures of it.
-use Rattle.blocks.specs.Four.{undiffer}
 use borrow.Author.Needs.{needs}
+use Rattle.blocks.specs.Four.{undiffer}
 use Rattle.blocks.proofs.transform.undiffer.Statement.{statement}
 use Rattle.blocks.proofs.transform.undiffer.Tie as tie
-use Rattle.blocks.proofs.transform.undiffer.Reads as reads
-use Rattle.blocks.proofs.transform.undiffer.Lts as lts
-use Rattle.words.proofs.plus.Reads as plus-reads
 
 array-read-plus : tie.Need-array-read-plus
 array-read-plus c = search needs

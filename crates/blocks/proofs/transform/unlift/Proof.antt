@@ -1,14 +1,8 @@
 -- `blocks::transform::unlift` meets its contract: each step is what its callee ensures of it.
-use Rattle.blocks.specs.Four.{unlift}
 use borrow.Author.Needs.{needs}
+use Rattle.blocks.specs.Four.{unlift}
 use Rattle.blocks.proofs.transform.unlift.Statement.{statement}
 use Rattle.blocks.proofs.transform.unlift.Tie as tie
-use Rattle.blocks.proofs.transform.unlift.Reads as reads
-use Rattle.blocks.proofs.transform.unlift.Lts as lts
-use Rattle.blocks.proofs.transform.twice_less.Reads as twice-less-reads
-use Rattle.words.proofs.half.Reads as half-reads
-use Rattle.words.proofs.minus.Reads as minus-reads
-use Rattle.words.proofs.plus.Reads as plus-reads
 
 array-read-plus : tie.Need-array-read-plus
 array-read-plus c = search needs

@@ -2,10 +2,6 @@
 use borrow.Author.Needs.{needs}
 use Rattle.blocks.proofs.transform.write_four.Statement.{statement}
 use Rattle.blocks.proofs.transform.write_four.Tie as tie
-use Rattle.blocks.proofs.transform.write_four.Reads as reads
-use Rattle.blocks.proofs.transform.write_four.Lts as lts
-use Rattle.blocks.proofs.transform.differ.Reads as differ-reads
-use Rattle.blocks.proofs.transform.lift.Reads as lift-reads
 
 differ-requires : tie.Need-differ-requires
 differ-requires c κs = search needs

@@ -1,0 +1,30 @@
+// The two float conversions, exported so that a host program can hold them against its hardware's arithmetic.
+ghost use mathlib.Core.Path.{_≡_};
+ghost use Rattle.conversions.specs.Guarded.{patternAt, integerAt};
+
+#[no_mangle]
+pub extern "C" fn windlassow_to_pattern(e: u32, i: u32) -> u32
+    ensures { λ r. ⌜ r ≡ patternAt e i ⌝ }
+{
+    if e < 256 {
+        floats::to_pattern(e, i)
+    } else {
+        0
+    }
+}
+
+#[no_mangle]
+pub extern "C" fn windlassow_to_integer(e: u32, w: u32) -> u32
+    ensures { λ r. ⌜ r ≡ integerAt e w ⌝ }
+{
+    let field = floats::exponent_field(w);
+    if field < e {
+        if field < 255 {
+            floats::to_integer(e, w)
+        } else {
+            0
+        }
+    } else {
+        0
+    }
+}

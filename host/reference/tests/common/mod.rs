@@ -1,0 +1,63 @@
+//! What several test files use.
+#![allow(dead_code)]
+
+use reference::{Params, Reply};
+
+pub const EXACT: u32 = 1;
+pub const LOSSY: u32 = 0;
+pub const INTEGERS: u32 = 0;
+pub const FLOATS: u32 = 1;
+
+pub fn params(kind: u32, dimension: u32, mode: u32, planes: u32, width: u32) -> Params {
+    Params { kind, dimension, mode, planes, width }
+}
+
+pub fn done(count: u32) -> Reply {
+    Reply { answer: 0, count }
+}
+
+pub fn refused(answer: u32) -> Reply {
+    Reply { answer, count: 0 }
+}
+
+/// The bits of a string of 0s and 1s, spaces left out.
+pub fn bits(text: &str) -> Vec<bool> {
+    text.chars().filter(|c| *c != ' ').map(|c| c == '1').collect()
+}
+
+/// Stores in a buffer of zeros that has just room for the slot, and gives the slot's bits too.
+pub fn stored(params: &Params, words: &[u32]) -> (Reply, Vec<bool>) {
+    let width = params.check().unwrap().width;
+    let mut archive = vec![0; width.div_ceil(8)];
+    let reply = reference::store(params, &mut archive, 0, words);
+    (reply, (0..width).map(|t| reference::bits::get(&archive, t)).collect())
+}
+
+/// Bytes that begin with these bits.
+pub fn bytes_of(bits: &[bool], len: usize) -> Vec<u8> {
+    let mut bytes = vec![0; len];
+    for (t, &bit) in bits.iter().enumerate() {
+        reference::bits::set(&mut bytes, t, bit);
+    }
+    bytes
+}
+
+/// Marsaglia's xorshift generator of 64 bits.
+pub struct Random(pub u64);
+
+impl Random {
+    pub fn next(&mut self) -> u64 {
+        self.0 ^= self.0 << 13;
+        self.0 ^= self.0 >> 7;
+        self.0 ^= self.0 << 17;
+        self.0
+    }
+
+    pub fn word(&mut self) -> u32 {
+        (self.next() >> 32) as u32
+    }
+
+    pub fn below(&mut self, end: usize) -> usize {
+        ((self.next() >> 32) as usize * end) >> 32
+    }
+}

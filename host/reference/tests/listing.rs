@@ -1,0 +1,94 @@
+//! The listing program's lines.
+
+use reference::listing;
+
+fn lists(input: &[u8], output: &str) {
+    assert_eq!(String::from_utf8(listing(input)).unwrap(), output);
+}
+
+const FIRST: &str = "000101200030\n";
+const ONES: &str = "00000001000000010000000100000001\n";
+
+fn after_first(lines: &[u8]) -> Vec<u8> {
+    [FIRST.as_bytes(), lines].concat()
+}
+
+#[test]
+fn bad_first_lines() {
+    for input in [
+        "",
+        "\n",
+        "000101200030",
+        "00010120003\n",
+        "0001012000300\n",
+        "00010120003G\n",
+        "00010120003A\n",
+        "000101200030\r\n",
+        " 00101200030\n",
+        "0201012000300000\n",
+    ] {
+        lists(input.as_bytes(), "0c0000\n");
+    }
+    lists(b"0001012\x000030\n", "0c0000\n");
+    // Nothing is listed after a bad first line.
+    lists(("\n".to_string() + FIRST + ONES).as_bytes(), "0c0000\n");
+}
+
+#[test]
+fn refused_first_lines_stop_the_program() {
+    for (first, output) in [
+        ("020000000001\n", "010000\n"),
+        ("010300000001\n", "020000\n"),
+        ("000102000001\n", "030000\n"),
+        ("000101000001\n", "040000\n"),
+        ("000100210030\n", "040000\n"),
+        ("000101200001\n", "050000\n"),
+        ("00010120000f\n", "050000\n"),
+        ("000101200401\n", "050000\n"),
+        ("ffffffffffff\n", "010000\n"),
+    ] {
+        lists((first.to_string() + ONES).as_bytes(), output);
+    }
+}
+
+#[test]
+fn no_blocks_no_lines() {
+    lists(FIRST.as_bytes(), "");
+}
+
+#[test]
+fn bad_block_lines_and_the_next_is_read() {
+    let good = "0000271f0000003000\n";
+    for bad in [
+        "\n",
+        "0000000100000001000000010000000\n",
+        "000000010000000100000001000000010\n",
+        "0000000100000001000000010000000A\n",
+        "00000001 0000000100000001000000\n",
+        "00000001000000010000000100000001\r\n",
+    ] {
+        lists(&after_first((bad.to_string() + ONES).as_bytes()), &format!("0c0000\n{good}"));
+    }
+    // The length of the other dimension is ill-formed too.
+    lists(&after_first(("0".repeat(128) + "\n").as_bytes()), "0c0000\n");
+    // A last line without its newline.
+    lists(&after_first(ONES.trim_end().as_bytes()), "0c0000\n");
+    lists(&after_first((ONES.to_string() + "0").as_bytes()), &format!("{good}0c0000\n"));
+}
+
+#[test]
+fn widths_that_are_no_whole_bytes() {
+    // W = 0x11: three bytes, of which seven bits are spare.
+    let input = "000100200011\nffffffffffffffffffffffffffffffff\n";
+    let output = String::from_utf8(listing(input.as_bytes())).unwrap();
+    assert_eq!(output.len(), 2 + 4 + 6 + 1);
+    assert!(output.ends_with("00\n") || output.ends_with("01\n"));
+    // W = 0 stands for 8N: four bytes.
+    lists(b"000101200000\n00000000000000000000000000000000\n", "00000600000000\n");
+}
+
+#[test]
+fn lossy_floats_and_row_9() {
+    let input = "01010020003f\n7f800000000000000000000000000000\n00000000800000000000000000000000\n";
+    lists(input.as_bytes(), "090000\n0000010000000000000000\n");
+}

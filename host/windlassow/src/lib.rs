@@ -1,0 +1,138 @@
+//! Blocks of readings in slots of equal width, and doubles in FPC streams.
+//!
+//! This is the Rust interface to a static library that is written and proved in Rattle. An archive is a byte
+//! buffer that the caller lends; it is cut into slots of W bits, and slot k starts at bit kW. A block is 4 or 16
+//! words of 32 bits, see [`Dimension`]. Words are integers (`value as u32`) or float patterns
+//! ([`f32::to_bits`]).
+//!
+//! ```
+//! use windlassow::{Dimension, Params, Refusal, read, slot_count, store};
+//!
+//! # fn main() -> Result<(), Refusal> {
+//! let params = Params::exact_floats(Dimension::One);
+//! let mut archive = vec![0u8; 1000];
+//! assert_eq!(slot_count(params, &archive)?, 54);
+//!
+//! let block = [1.0f32, 1.5, 2.0, -0.0].map(f32::to_bits);
+//! store(params, &mut archive, 7, &block)?;
+//!
+//! let mut back = [0u32; 4];
+//! read(params, &archive, 7, &mut back)?;
+//! assert_eq!(back, block);
+//!
+//! // There is no slot 54.
+//! assert_eq!(read(params, &archive, 54, &mut back), Err(Refusal::NoSuchSlot));
+//! # Ok(())
+//! # }
+//! ```
+//!
+//! A refused call changes no buffer, with one exception: [`fpc_write`] and [`fpc_read`] leave both tables zero
+//! with [`Refusal::RoomTooSmall`] and [`Refusal::NotAStream`].
+
+mod ffi;
+mod params;
+mod refusal;
+
+pub use params::{Dimension, Kind, Mode, Params};
+pub use refusal::Refusal;
+use refusal::outcome;
+
+/// Stores a block in a slot and gives the bits of its code. Only the bits of that slot change.
+///
+/// ```
+/// use windlassow::{Dimension, Params, Refusal, store};
+///
+/// let params = Params::exact_integers(Dimension::One).with_width(48);
+/// let mut archive = [0u8; 12];
+/// assert_eq!(store(params, &mut archive, 1, &[1; 4]), Ok(39));
+/// assert_eq!(archive, [0, 0, 0, 0, 0, 0, 0x1f, 0, 0, 0, 0x30, 0]);
+///
+/// // A block that needs 136 bits does not fit into 48.
+/// let block = [0xaaaaaaab, 0x55555556, 0xaaaaaaac, 0x55555558];
+/// let refusal = store(params, &mut archive, 1, &block).unwrap_err();
+/// assert_eq!(refusal, Refusal::TooLongForSlot { bits: 136 });
+/// assert_eq!(refusal.number(), 10);
+/// ```
+pub fn store(params: Params, archive: &mut [u8], slot: usize, words: &[u32]) -> Result<usize, Refusal> {
+    outcome(ffi::store(params, archive, slot, words))
+}
+
+/// Reads a slot into `words`, which must have the length of a block, and gives that length.
+///
+/// In exact mode a slot that no block could have produced is refused. In lossy mode every slot can be read.
+///
+/// ```
+/// use windlassow::{Dimension, Params, Refusal, read};
+///
+/// let mut words = [0; 4];
+/// let exact = Params::exact_integers(Dimension::One).with_width(48);
+/// assert_eq!(read(exact, &[0xff; 6], 0, &mut words), Err(Refusal::NotACode));
+/// let lossy = Params::lossy_integers(Dimension::One, 32, 48);
+/// assert_eq!(read(lossy, &[0xff; 6], 0, &mut words), Ok(4));
+/// ```
+pub fn read(params: Params, archive: &[u8], slot: usize, words: &mut [u32]) -> Result<usize, Refusal> {
+    outcome(ffi::read(params, archive, slot, words))
+}
+
+/// The number of whole slots in an archive.
+///
+/// ```
+/// use windlassow::{Dimension, Params, slot_count};
+///
+/// let params = Params::lossy_floats(Dimension::Two, 20, 100);
+/// assert_eq!(slot_count(params, &[0; 64]), Ok(5));
+/// ```
+pub fn slot_count(params: Params, archive: &[u8]) -> Result<usize, Refusal> {
+    outcome(ffi::slot_count(params, archive))
+}
+
+/// The bits of a block's code: what [`store`] would give, or what it would need in exact mode.
+///
+/// ```
+/// use windlassow::{Dimension, Params, bit_count};
+///
+/// let params = Params::exact_floats(Dimension::One);
+/// assert_eq!(bit_count(params, &[1.0f32.to_bits(); 4]), Ok(21));
+/// assert_eq!(bit_count(params, &[0; 4]), Ok(1));
+/// ```
+pub fn bit_count(params: Params, words: &[u32]) -> Result<usize, Refusal> {
+    outcome(ffi::bit_count(params, words))
+}
+
+/// Writes the FPC stream of a run of doubles, given as patterns, into `out` and gives its length in bytes.
+///
+/// `f` and `d` are the two tables, of one length that is a power of two from 16 to 1,024. What they hold at first
+/// does not matter. The stream of n doubles is never longer than 17 bytes for each begun pair.
+///
+/// ```
+/// use windlassow::{Refusal, fpc_write};
+///
+/// let (mut f, mut d) = ([0; 16], [0; 16]);
+/// let run = [1.0f64, 1.0].map(f64::to_bits);
+/// let mut out = [0; 17];
+/// assert_eq!(fpc_write(&mut f, &mut d, &run, &mut out), Ok(9));
+/// assert_eq!(out[..9], [0x07, 0, 0, 0, 0, 0, 0, 0xf0, 0x3f]);
+///
+/// let refusal = fpc_write(&mut f, &mut d, &run, &mut out[..8]).unwrap_err();
+/// assert_eq!(refusal.needed(), Some(9));
+/// ```
+pub fn fpc_write(f: &mut [u64], d: &mut [u64], doubles: &[u64], out: &mut [u8]) -> Result<usize, Refusal> {
+    outcome(ffi::fpc_write(f, d, doubles, out))
+}
+
+/// Reads an FPC stream into `doubles` and gives their number. The tables must have the length that they had when
+/// the stream was written.
+///
+/// ```
+/// use windlassow::{Refusal, fpc_read};
+///
+/// let (mut f, mut d) = ([0; 16], [0; 16]);
+/// let mut doubles = [0; 2];
+/// assert_eq!(fpc_read(&mut f, &mut d, &[0x07, 0, 0, 0, 0, 0, 0, 0xf0, 0x3f], &mut doubles), Ok(2));
+/// assert_eq!(doubles.map(f64::from_bits), [1.0, 1.0]);
+///
+/// assert_eq!(fpc_read(&mut f, &mut d, &[0x66, 0, 0], &mut doubles), Err(Refusal::NotAStream));
+/// ```
+pub fn fpc_read(f: &mut [u64], d: &mut [u64], stream: &[u8], doubles: &mut [u64]) -> Result<usize, Refusal> {
+    outcome(ffi::fpc_read(f, d, stream, doubles))
+}
