@@ -1,0 +1,69 @@
+-- `fpc::write_pair` meets its contract: two doubles coded one after the other, and their pair written. Assumes nothing.
+use native.Mathlib.Omega.{arith}
+use borrow.Author.Needs.{needs}
+use Rattle.fpc.specs.Calls.{predictors}
+use Rattle.fpc.specs.Predictors.{fcm, dfcm}
+use Rattle.fpc.proofs.WriteLaws.{within-next, pair-written}
+use Rattle.fpc.proofs.CodeLaws.{half-lt}
+use Rattle.fpc.proofs.write_pair.Statement.{statement}
+use Rattle.fpc.proofs.write_pair.Tie as tie
+
+encode-requires : tie.Need-encode-requires
+encode-requires c κs = search needs
+
+encode-requires-2 : tie.Need-encode-requires-2
+encode-requires-2 c κs =
+    let u = c .before .before .before .before .before .before .before in
+    let s = u .before .before .before .before .before .before in
+    let a = s .args in
+    within-next (a .f .now) (a .d .now) (a .p) (s .pre .0) (a .v) (u .encode .last .0) (u .encode .last .1 .0) (u .encode .result .place) (u .encode .ensures .next)
+
+put-pair-requires : tie.Need-put-pair-requires
+put-pair-requires c κs =
+    let y = c .before .before .before .before .before .before in
+    let x = y .before .before .before .before .before .before .before .before in
+    let s = x .before .before .before .before .before .before in
+    let a = s .args in
+    let p = predictors (a .f .now) (a .d .now) (a .p) in
+    let q = predictors (x .encode .last .0) (x .encode .last .1 .0) (x .encode .result .place) in (
+      s .pre .1,
+      omega (arith, x .encode .ensures .half-is, half-lt (fcm p) (dfcm p) (a .v)),
+      omega (arith, y .encode2 .ensures .half-is, half-lt (fcm q) (dfcm q) (a .w)),
+    )
+
+same-length : tie.Need-same-length
+same-length c = search needs
+
+same-length-2 : tie.Need-same-length-2
+same-length-2 c = search needs
+
+same-length-3 : tie.Need-same-length-3
+same-length-3 c = search needs
+
+returns : tie.Need-returns
+returns c =
+    let z = c .before .before in
+    let y = z .before .before .before .before .before .before .before in
+    let x = y .before .before .before .before .before .before .before .before in
+    let s = x .before .before .before .before .before .before in
+    let a = s .args in
+    pair-written (a .f .now) (a .d .now) (a .p) (s .pre .0) (a .v) (a .w) (x .encode .result) (y .encode2 .result) (x .encode .last .0) (x .encode .last .1 .0) (y .encode2 .last .0) (y .encode2 .last .1 .0)
+    (x .encode .ensures)
+    (y .encode2 .ensures)
+    (a .out .now)
+    (a .at)
+    (z .put-pair .result)
+    (z .put-pair .last .0)
+    (z .put-pair .ensures)
+
+pub write-pair-spec : {M : Type 1} → statement M
+write-pair-spec =
+    tie.close
+    (tie.spec
+    encode-requires
+    encode-requires-2
+    put-pair-requires
+    same-length
+    same-length-2
+    same-length-3
+    returns)

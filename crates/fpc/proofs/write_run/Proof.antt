@@ -1,0 +1,161 @@
+-- `fpc::write_run` meets its contract. The invariant: writing the rest of the run from here gives what writing all of it from the start gives. Assumes nothing.
+use mathlib.Core.Path.{subst}
+use Prim.Native.Nat.{ℕ, _-_}
+use native.Mathlib.Omega.{arith}
+use lib.ListN.{length}
+use borrow.Author.Needs.{needs}
+use Rattle.fpc.specs.Calls.{Appended, Stand}
+use Rattle.fpc.specs.Stream.{stream}
+use Rattle.fpc.proofs.RunLaws.{Writing, writing-start, writing-pair, writing-done, writing-odd}
+use Rattle.fpc.proofs.write_run.Statement.{statement}
+use Rattle.fpc.proofs.write_run.Tie as tie
+
+abbrev Inv-loop : tie.InvT-loop
+Inv-loop f₀ d₀ doubles out₀ p₀ at₀ i₀ f d out p at i = Writing (length f₀) doubles out₀ f d p out at i
+
+abbrev μ-loop : tie.MeasureT-loop
+μ-loop f₀ d₀ doubles out₀ p₀ at₀ i₀ f d out p at i = length doubles - i
+
+clear-requires : tie.Need-clear-requires Inv-loop μ-loop
+clear-requires c κs = search needs
+
+clear-requires-2 : tie.Need-clear-requires-2 Inv-loop μ-loop
+clear-requires-2 c κs = search needs
+
+loop-holds : tie.Need-loop-holds Inv-loop μ-loop
+loop-holds c =
+    let y = c .before .before in
+    let x = y .before .before .before .before in
+    let s = x .before .before .before .before .before .before in
+    let a = s .args in
+    writing-start (x .clear .last .0) (y .clear2 .last .0) (a .doubles .now) (a .out .now) (a .f .now) (a .d .now) (s .pre .0) (x .clear .ensures) (y .clear2 .ensures)
+
+add-loop : tie.Need-add-loop Inv-loop μ-loop
+add-loop c = search needs
+
+mul-write-pair : tie.Need-mul-write-pair Inv-loop μ-loop
+mul-write-pair c = search needs
+
+shared-slice-read-write-pair : tie.Need-shared-slice-read-write-pair Inv-loop μ-loop
+shared-slice-read-write-pair c = search needs
+
+add-write-pair : tie.Need-add-write-pair Inv-loop μ-loop
+add-write-pair c = search needs
+
+mul-write-pair-2 : tie.Need-mul-write-pair-2 Inv-loop μ-loop
+mul-write-pair-2 c = search needs
+
+shared-slice-read-write-pair-2 : tie.Need-shared-slice-read-write-pair-2 Inv-loop μ-loop
+shared-slice-read-write-pair-2 c = search needs
+
+write-pair-requires : tie.Need-write-pair-requires Inv-loop μ-loop
+write-pair-requires c κs =
+    let l = c .before .before .before .before .before .before .loop in
+    (l .inv .within, omega (arith, l .inv .near, l .inv .counted, c .before .before .before .before .before .before .before .before .before .before .before .before .before .before .before .before .before .before .before .pre .1))
+
+add-i : tie.Need-add-i Inv-loop μ-loop
+add-i c = search needs
+
+loop-less : tie.Need-loop-less Inv-loop μ-loop
+loop-less c = search needs
+
+loop-again : tie.Need-loop-again Inv-loop μ-loop
+loop-again c =
+    let r = c .before .before .before .before .before .before .before in
+    let l = r .before .before .before .before .before .before .before in
+    let o = l .loop in
+    let x = l .before .before .before .before .before .before .before in
+    let a = x .before .before .before .before .before .before .args in
+    writing-pair (length (x .clear .last .0)) (a .doubles .now) (a .out .now) (o .f) (o .d) (o .p) (o .out) (o .at) (o .i) (o .inv) (r .before .before .before .before .before .before .loop-test .taken)
+    (r .write-pair .result .next)
+    (r .write-pair .last .1 .1 .1 .1 .1 .0)
+    (r .write-pair .last .0)
+    (r .write-pair .last .1 .0)
+    (r .write-pair .result .place)
+    (r .write-pair .ensures .0)
+    (r .write-pair .ensures .1)
+
+mul-write-odd : tie.Need-mul-write-odd Inv-loop μ-loop
+mul-write-odd c = search needs
+
+shared-slice-read-write-odd : tie.Need-shared-slice-read-write-odd Inv-loop μ-loop
+shared-slice-read-write-odd c = search needs
+
+write-odd-requires : tie.Need-write-odd-requires Inv-loop μ-loop
+write-odd-requires c κs =
+    let l = c .before .before .before .before .before .before .loop in
+    (l .inv .within, omega (arith, l .inv .near, l .inv .counted, c .before .before .before .before .before .before .before .before .before .before .before .before .before .before .before .before .before .before .before .pre .1))
+
+same-length : tie.Need-same-length Inv-loop μ-loop
+same-length c = search needs
+
+same-length-2 : tie.Need-same-length-2 Inv-loop μ-loop
+same-length-2 c = search needs
+
+same-length-3 : tie.Need-same-length-3 Inv-loop μ-loop
+same-length-3 c = search needs
+
+returns : tie.Need-returns Inv-loop μ-loop
+returns c =
+    let r = c .before .before .before .before .before .before in
+    let l = r .before .before .before .before .before .before .before in
+    let o = l .loop in
+    let x = l .before .before .before .before .before .before .before in
+    let a = x .before .before .before .before .before .before .args in
+    subst (λ (n : ℕ). Appended (a .out .now) 0 (stream n (a .doubles .now)) (r .write-odd .result) (r .write-odd .last .1 .1 .1 .1 .0) × Stand n (a .doubles .now) (r .write-odd .last .0) (r .write-odd .last .1 .0)) (x .clear .kept .0)
+    (writing-odd (length (x .clear .last .0)) (a .doubles .now) (a .out .now) (o .f) (o .d) (o .p) (o .out) (o .at) (o .i) (o .inv) (omega arith)
+    (r .write-odd .result)
+    (r .write-odd .last .1 .1 .1 .1 .0)
+    (r .write-odd .last .0)
+    (r .write-odd .last .1 .0)
+    (r .write-odd .ensures .0)
+    (r .write-odd .ensures .1))
+
+same-length-4 : tie.Need-same-length-4 Inv-loop μ-loop
+same-length-4 c = search needs
+
+same-length-5 : tie.Need-same-length-5 Inv-loop μ-loop
+same-length-5 c = search needs
+
+same-length-6 : tie.Need-same-length-6 Inv-loop μ-loop
+same-length-6 c = search needs
+
+returns-2 : tie.Need-returns-2 Inv-loop μ-loop
+returns-2 c =
+    let l = c .before .before in
+    let o = l .loop in
+    let x = l .before .before .before .before .before .before .before in
+    let a = x .before .before .before .before .before .before .args in
+    subst (λ (n : ℕ). Appended (a .out .now) 0 (stream n (a .doubles .now)) (o .at) (o .out) × Stand n (a .doubles .now) (o .f) (o .d)) (x .clear .kept .0)
+    (writing-done (length (x .clear .last .0)) (a .doubles .now) (a .out .now) (o .f) (o .d) (o .p) (o .out) (o .at) (o .i) (o .inv) (c .if1 .left))
+
+pub write-run-spec : {M : Type 1} → statement M
+write-run-spec =
+    tie.close
+    (tie.spec
+    Inv-loop
+    μ-loop
+    clear-requires
+    clear-requires-2
+    loop-holds
+    add-loop
+    mul-write-pair
+    shared-slice-read-write-pair
+    add-write-pair
+    mul-write-pair-2
+    shared-slice-read-write-pair-2
+    write-pair-requires
+    add-i
+    loop-less
+    loop-again
+    mul-write-odd
+    shared-slice-read-write-odd
+    write-odd-requires
+    same-length
+    same-length-2
+    same-length-3
+    returns
+    same-length-4
+    same-length-5
+    same-length-6
+    returns-2)

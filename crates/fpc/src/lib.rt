@@ -1,0 +1,361 @@
+// FPC streams: document 01's "FPC stream", writer and reader.
+mod code;
+mod slices;
+
+use code::bytes_of;
+use code::chosen;
+use code::half_of;
+use code::residual_of;
+use slices::byte;
+use slices::clear;
+use slices::put;
+use slices::put_bytes;
+use slices::put_double;
+use slices::word;
+ghost use mathlib.Core.Path.{_≡_};
+ghost use mathlib.Core.Bool.{_&&_};
+ghost use lib.Dec.{eqb};
+ghost use Prim.Native.Nat.{_+_, _*_, _/_, _%_, _^_, _≤_, _<_};
+ghost use lib.ListN.{length, drop};
+ghost use Rattle.fpc.specs.Predictors.{update};
+ghost use Rattle.fpc.specs.Stream.{pairBytes, oddBytes, stream};
+ghost use Rattle.fpc.specs.Reading.{oddEnd, mostDoubles, read};
+ghost use Rattle.fpc.specs.Outcome.{goodSize, delivered, writeOutcome, readInto, readOutcome};
+ghost use Rattle.fpc.specs.Calls.{Tables, Within, predictors, predicted, Encoded, pairOf, Appended, Stand, Stepped, RanAs, Refused, outcome};
+
+// What a public call answers: document 01's answer number, and a count.
+#[repr(C)]
+pub struct Reply {
+    pub answer: u32,
+    pub count: u32,
+}
+
+// Where the predictors stand beside their tables: both hashes and the last value.
+pub struct Place {
+    pub h: usize,
+    pub g: usize,
+    pub last: u64,
+}
+
+// Both predictions of the next double.
+pub struct Predicted {
+    pub fcm: u64,
+    pub dfcm: u64,
+}
+
+// A double as it is written, and the place after it.
+pub struct Coded {
+    pub half: u32,
+    pub xor: u64,
+    pub place: Place,
+}
+
+// The place after a pair, and the place of the next byte.
+pub struct Wrote {
+    pub place: Place,
+    pub next: usize,
+}
+
+// What one step of reading answers: the double and the next place, or bad.
+pub enum Step {
+    Double(u64, usize),
+    Bad,
+}
+
+// The place of the first double.
+const START: Place = Place {
+    h: 0,
+    g: 0,
+    last: 0,
+};
+
+// Row 23: the bytes are no stream.
+const NO_STREAM: Reply = Reply {
+    answer: 23,
+    count: 0,
+};
+
+// Both predictions.
+fn predict(f: &[u64], d: &[u64], p: Place) -> Predicted
+    requires { ⌜ Within (now f) (now d) p ⌝ }
+    ensures { λ r. ⌜ r ≡ predicted (predictors (now (f .entry)) (now (d .entry)) p) ⌝ }
+{
+    let h = p.h;
+    let g = p.g;
+    Predicted {
+        fcm: f[h],
+        dfcm: std::num::wrapping_add_u64(d[g], p.last),
+    }
+}
+
+// Both tables and the place after the double v.
+pub fn advance(f: &mut [u64], d: &mut [u64], p: Place, v: u64) -> Place
+    requires { ⌜ Within (now f) (now d) p ⌝ }
+    ensures { λ r. ⌜ predictors (now (f .exit)) (now (d .exit)) r ≡ update (length (now (f .entry))) (predictors (now (f .entry)) (now (d .entry)) p) v ⌝ }
+{
+    let h = p.h;
+    let g = p.g;
+    let t = std::num::wrapping_sub_u64(v, p.last);
+    f[h] = v;
+    d[g] = t;
+    Place {
+        h: ((h * 64) ^ (v >> 48) as usize) % f.len(),
+        g: ((g * 4) ^ (t >> 40) as usize) % f.len(),
+        last: v,
+    }
+}
+
+// The half byte and the xor of the double v; the tables and the place move past it.
+fn encode(f: &mut [u64], d: &mut [u64], p: Place, v: u64) -> Coded
+    requires { ⌜ Within (now f) (now d) p ⌝ }
+    ensures { λ r. ⌜ Encoded (length (now (f .entry))) (predictors (now (f .entry)) (now (d .entry)) p) v r (predictors (now (f .exit)) (now (d .exit)) (r .place)) ⌝ }
+{
+    let a = predict(f, d, p);
+    let q = advance(f, d, p, v);
+    Coded {
+        half: half_of(a, v),
+        xor: residual_of(a, v),
+        place: q,
+    }
+}
+
+// Two doubles as they are written, in one pair from place `at` on; the next place.
+fn put_pair(out: &mut [u8], at: usize, a: Coded, b: Coded) -> usize
+    requires { ⌜ (at ≤ 2 ^ 20) × (a .half < 16) × (b .half < 16) ⌝ }
+    ensures { λ r. ⌜ Appended (now (out .entry)) at (pairOf a b) r (now (out .exit)) ⌝ }
+{
+    let m = bytes_of(a.half % 8);
+    let n = bytes_of(b.half % 8);
+    put(out, at, (16 * a.half + b.half) as u8);
+    put_bytes(out, at + 1, a.xor, m);
+    put_bytes(out, at + 1 + m, b.xor, n);
+    at + 1 + m + n
+}
+
+// One pair of doubles from place `at` on.
+fn write_pair(
+    f: &mut [u64],
+    d: &mut [u64],
+    p: Place,
+    v: u64,
+    w: u64,
+    out: &mut [u8],
+    at: usize,
+) -> Wrote
+    requires { ⌜ Within (now f) (now d) p × (at ≤ 2 ^ 20) ⌝ }
+    ensures { λ r. ⌜ Appended (now (out .entry)) at (pairBytes (length (now (f .entry))) (predictors (now (f .entry)) (now (d .entry)) p) v w) (r .next) (now (out .exit)) ⌝ }
+    ensures { λ r. ⌜ predictors (now (f .exit)) (now (d .exit)) (r .place) ≡ update (length (now (f .entry))) (update (length (now (f .entry))) (predictors (now (f .entry)) (now (d .entry)) p) v) w ⌝ }
+{
+    let a = encode(f, d, p, v);
+    let q = a.place;
+    let b = encode(f, d, q, w);
+    let r = b.place;
+    let next = put_pair(out, at, a, b);
+    Wrote { place: r, next }
+}
+
+// The last double of an odd run and the odd end, half byte 6 and a byte 00, from place `at` on; the next place.
+fn write_odd(f: &mut [u64], d: &mut [u64], p: Place, v: u64, out: &mut [u8], at: usize) -> usize
+    requires { ⌜ Within (now f) (now d) p × (at ≤ 2 ^ 20) ⌝ }
+    ensures { λ r. ⌜ Appended (now (out .entry)) at (oddBytes (predictors (now (f .entry)) (now (d .entry)) p) v) r (now (out .exit)) ⌝ }
+    ensures { λ r. ⌜ (now (f .exit) ≡ update (length (now (f .entry))) (predictors (now (f .entry)) (now (d .entry)) p) v .f) × (now (d .exit) ≡ update (length (now (f .entry))) (predictors (now (f .entry)) (now (d .entry)) p) v .d) ⌝ }
+{
+    let a = encode(f, d, p, v);
+    let b = Coded {
+        half: 6,
+        xor: 0,
+        place: p,
+    };
+    put_pair(out, at, a, b)
+}
+
+// The stream of the doubles, from zeroed tables; its length. What the room does not hold is left out.
+fn write_run(f: &mut [u64], d: &mut [u64], doubles: &[u64], out: &mut [u8]) -> usize
+    requires { ⌜ Tables (now f) (now d) × (length (now doubles) ≤ mostDoubles) ⌝ }
+    ensures { λ r. ⌜ Appended (now (out .entry)) 0 (stream (length (now (f .entry))) (now (doubles .entry))) r (now (out .exit)) ⌝ }
+    ensures { λ r. ⌜ Stand (length (now (f .entry))) (now (doubles .entry)) (now (f .exit)) (now (d .exit)) ⌝ }
+{
+    clear(f);
+    clear(d);
+    let mut p = START;
+    let mut at = 0usize;
+    let mut i = 0usize;
+    while i + 1 < doubles.len() {
+        let r = write_pair(f, d, p, doubles[i], doubles[i + 1], out, at);
+        p = r.place;
+        at = r.next;
+        i += 2;
+    }
+    if i < doubles.len() {
+        return write_odd(f, d, p, doubles[i], out, at);
+    }
+    at
+}
+
+// Whether n is a power of two from 16 to 1,024.
+fn good_size(n: usize) -> bool
+    ensures { λ r. ⌜ r ≡ goodSize n ⌝ }
+{
+    match n {
+        16 | 32 | 64 | 128 | 256 | 512 | 1024 => true,
+        _ => false,
+    }
+}
+
+// Rows 22 and 23: both tables zero.
+fn refused(f: &mut [u64], d: &mut [u64], answer: u32, count: u32) -> Reply
+    ensures { λ r. ⌜ Refused (now (f .entry)) (now (d .entry)) answer count r (now (f .exit)) (now (d .exit)) ⌝ }
+{
+    clear(f);
+    clear(d);
+    Reply { answer, count }
+}
+
+// Whether two tables of these lengths may be lent: equal, and a power of two from 16 to 1,024.
+fn good_lengths(m: usize, n: usize) -> bool
+    ensures { λ r. ⌜ r ≡ (eqb m n && goodSize m) ⌝ }
+{
+    if m == n { good_size(m) } else { false }
+}
+
+// The writer after rows 20 and 21: the length is measured first, with no room, so that row 22 leaves the output as it was.
+fn write_measured(f: &mut [u64], d: &mut [u64], doubles: &[u64], out: &mut [u8]) -> Reply
+    requires { ⌜ Tables (now f) (now d) × (length (now doubles) ≤ mostDoubles) ⌝ }
+    ensures { λ r. ⌜ outcome r (now (out .exit)) (now (f .exit)) (now (d .exit)) ≡ delivered (length (now (f .entry))) (now (doubles .entry)) (stream (length (now (f .entry))) (now (doubles .entry))) (now (out .entry)) ⌝ }
+{
+    let n = write_run(f, d, doubles, &mut out[..0]);
+    if out.len() < n {
+        return refused(f, d, 22, n as u32);
+    }
+    write_run(f, d, doubles, out);
+    Reply {
+        answer: 0,
+        count: n as u32,
+    }
+}
+
+// The FPC writer. Both tables are lent beside the doubles and the room for the stream; what they hold does not matter.
+pub fn fpc_write(f: &mut [u64], d: &mut [u64], doubles: &[u64], out: &mut [u8]) -> Reply
+    ensures { λ r. ⌜ outcome r (now (out .exit)) (now (f .exit)) (now (d .exit)) ≡ writeOutcome (now (f .entry)) (now (d .entry)) (now (doubles .entry)) (now (out .entry)) ⌝ }
+{
+    if !good_lengths(f.len(), d.len()) {
+        return Reply {
+            answer: 20,
+            count: 0,
+        };
+    }
+    if 4096 < doubles.len() {
+        return Reply {
+            answer: 21,
+            count: 0,
+        };
+    }
+    write_measured(f, d, doubles, out)
+}
+
+// One step of reading: the double of a half byte and of the bytes from place `at` on, if the rules code it so, and the next place.
+pub fn read_step(f: &[u64], d: &[u64], p: Place, stream: &[u8], at: usize, half: u32) -> Step
+    requires { ⌜ Within (now f) (now d) p × (at ≤ length (now stream)) × (half < 16) ⌝ }
+    ensures { λ r. ⌜ Stepped (predictors (now (f .entry)) (now (d .entry)) p) half (drop at (now (stream .entry))) at r ⌝ }
+{
+    let a = predict(f, d, p);
+    let n = bytes_of(half % 8);
+    if stream.len() - at < n {
+        return Step::Bad;
+    }
+    let v = word(stream, at, n) ^ chosen(a, half / 8);
+    if half_of(a, v) == half {
+        Step::Double(v, at + n)
+    } else {
+        Step::Bad
+    }
+}
+
+// Whether the odd end, half byte 6 and a last byte 00, stands at place `at`.
+fn odd_end(stream: &[u8], at: usize, half: u32) -> bool
+    requires { ⌜ at ≤ length (now stream) ⌝ }
+    ensures { λ r. ⌜ r ≡ oddEnd half (drop at (now (stream .entry))) ⌝ }
+{
+    if half != 6 {
+        return false;
+    }
+    if stream.len() - at != 1 {
+        return false;
+    }
+    stream[at] == 0
+}
+
+// The doubles of a stream, from zeroed tables; how many. What the room does not hold is left out. Bytes that are no stream are left with 23.
+fn read_run(f: &mut [u64], d: &mut [u64], stream: &[u8], doubles: &mut [u64]) -> Reply
+    requires { ⌜ Tables (now f) (now d) ⌝ }
+    ensures { λ r. ⌜ RanAs (length (now (f .entry))) (now (doubles .entry)) (read (length (now (f .entry))) (now (stream .entry))) r (now (doubles .exit)) (now (f .exit)) (now (d .exit)) ⌝ }
+{
+    clear(f);
+    clear(d);
+    let mut p = START;
+    let mut at = 0usize;
+    let mut n = 0usize;
+    while at < stream.len() {
+        if n == 4096 {
+            return NO_STREAM;
+        }
+        let b = byte(stream[at]);
+        let Step::Double(v, second) = read_step(f, d, p, stream, at + 1, b / 16) else {
+            return NO_STREAM;
+        };
+        let q = advance(f, d, p, v);
+        put_double(doubles, n, v);
+        if odd_end(stream, second, b % 16) {
+            return Reply {
+                answer: 0,
+                count: (n + 1) as u32,
+            };
+        }
+        let Step::Double(w, next) = read_step(f, d, q, stream, second, b % 16) else {
+            return NO_STREAM;
+        };
+        p = advance(f, d, q, w);
+        put_double(doubles, n + 1, w);
+        at = next;
+        n += 2;
+    }
+    Reply {
+        answer: 0,
+        count: n as u32,
+    }
+}
+
+// The reader after rows 20 and 21: the stream is read first with no room, so that rows 23 and 22 leave the output as it was; 23 comes before 22.
+fn read_measured(f: &mut [u64], d: &mut [u64], stream: &[u8], doubles: &mut [u64]) -> Reply
+    requires { ⌜ Tables (now f) (now d) ⌝ }
+    ensures { λ r. ⌜ outcome r (now (doubles .exit)) (now (f .exit)) (now (d .exit)) ≡ readInto (length (now (f .entry))) (now (doubles .entry)) (read (length (now (f .entry))) (now (stream .entry))) ⌝ }
+{
+    let r = read_run(f, d, stream, &mut doubles[..0]);
+    if r.answer != 0 {
+        return refused(f, d, 23, 0);
+    }
+    let n = r.count as usize;
+    if doubles.len() < n {
+        return refused(f, d, 22, r.count);
+    }
+    read_run(f, d, stream, doubles)
+}
+
+// The FPC reader. Both tables are lent beside the stream and the room for the doubles; what they hold does not matter.
+pub fn fpc_read(f: &mut [u64], d: &mut [u64], stream: &[u8], doubles: &mut [u64]) -> Reply
+    ensures { λ r. ⌜ outcome r (now (doubles .exit)) (now (f .exit)) (now (d .exit)) ≡ readOutcome (now (f .entry)) (now (d .entry)) (now (stream .entry)) (now (doubles .entry)) ⌝ }
+{
+    if !good_lengths(f.len(), d.len()) {
+        return Reply {
+            answer: 20,
+            count: 0,
+        };
+    }
+    if 65536 < stream.len() {
+        return Reply {
+            answer: 21,
+            count: 0,
+        };
+    }
+    read_measured(f, d, stream, doubles)
+}
