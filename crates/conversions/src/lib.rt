@@ -6,11 +6,7 @@ ghost use Rattle.conversions.specs.Guarded.{patternAt, integerAt};
 pub extern "C" fn windlassow_to_pattern(e: u32, i: u32) -> u32
     ensures { λ r. ⌜ r ≡ patternAt e i ⌝ }
 {
-    if e < 256 {
-        floats::to_pattern(e, i)
-    } else {
-        0
-    }
+    if e < 256 { floats::to_pattern(e, i) } else { 0 }
 }
 
 #[no_mangle]

@@ -1,0 +1,5 @@
+-- Laws of slots.
+pub mod RowLaws
+pub mod SlotLaws
+pub mod Exact
+pub mod Outcomes

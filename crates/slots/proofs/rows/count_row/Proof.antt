@@ -1,0 +1,23 @@
+-- Rows 1 to 5 first, then row 6. Assumes nothing.
+use mathlib.Core.Path.{refl, sym, _∙_}
+use mathlib.Core.List.{[], _∷_}
+use Rattle.slots.specs.Rules.{parameterRows, row6}
+use Rattle.slots.proofs.RowLaws.{first-some, first-zero}
+use borrow.Author.Needs.{needs}
+use Rattle.slots.proofs.rows.count_row.Statement.{statement}
+use Rattle.slots.proofs.rows.count_row.Tie as tie
+
+parameter-row-requires : tie.Need-parameter-row-requires
+parameter-row-requires c κs = search needs
+
+returns : tie.Need-returns
+returns c = c .before .parameter-row .ensures ∙ sym (first-some (parameterRows (c .before .before .args .p)) (row6 (c .before .before .args .size) ∷ []) (λ e. c .if1 .taken (c .before .parameter-row .ensures ∙ e)))
+
+row-requires : tie.Need-row-requires
+row-requires c κs = search needs
+
+returns-2 : tie.Need-returns-2
+returns-2 c = c .row .ensures ∙ sym (first-zero (parameterRows (c .before .before .before .args .p)) (row6 (c .before .before .before .args .size) ∷ []) refl (sym (c .before .before .parameter-row .ensures) ∙ c .before .if1 .left))
+
+pub count-row-spec : {M : Type 1} → statement M
+count-row-spec = tie.close (tie.spec parameter-row-requires returns row-requires returns-2)

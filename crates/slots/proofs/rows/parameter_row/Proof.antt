@@ -1,0 +1,45 @@
+-- Each row over the rows after it. Assumes nothing.
+use borrow.Author.Needs.{needs}
+use Rattle.slots.proofs.rows.parameter_row.Statement.{statement}
+use Rattle.slots.proofs.rows.parameter_row.Tie as tie
+
+within-requires : tie.Need-within-requires
+within-requires c κs = search needs
+
+good-width-requires : tie.Need-good-width-requires
+good-width-requires c κs = search needs
+
+row-requires : tie.Need-row-requires
+row-requires c κs = search needs
+
+row-requires-2 : tie.Need-row-requires-2
+row-requires-2 c κs = search needs
+
+within-requires-2 : tie.Need-within-requires-2
+within-requires-2 c κs = search needs
+
+row-requires-3 : tie.Need-row-requires-3
+row-requires-3 c κs = search needs
+
+row-requires-4 : tie.Need-row-requires-4
+row-requires-4 c κs = search needs
+
+row-requires-5 : tie.Need-row-requires-5
+row-requires-5 c κs = search needs
+
+returns : tie.Need-returns
+returns c = rw (c .row5 .ensures, c .before .row4 .ensures, c .before .before .row3 .ensures, c .before .before .before .before .before .before .row2 .ensures, c .before .before .before .before .before .before .before .row .ensures, c .before .before .before .before .within2 .ensures, c .before .before .before .before .before .before .before .before .before .within .ensures, c .before .before .before .before .before .before .before .before .good-width .ensures)
+
+pub parameter-row-spec : {M : Type 1} → statement M
+parameter-row-spec =
+    tie.close
+    (tie.spec
+    within-requires
+    good-width-requires
+    row-requires
+    row-requires-2
+    within-requires-2
+    row-requires-3
+    row-requires-4
+    row-requires-5
+    returns)

@@ -1,0 +1,50 @@
+-- Rows 1 to 6 first, which give what the slot count needs, then rows 7 and 8. Assumes nothing.
+use mathlib.Core.Path.{refl, sym, _∙_}
+use mathlib.Core.List.{[], _∷_}
+use Rattle.slots.specs.Rules.{countRows, row7, row8}
+use Rattle.slots.proofs.RowLaws.{first-some, first-zero, sized}
+use borrow.Author.Needs.{needs}
+use Rattle.slots.proofs.rows.place_row.Statement.{statement}
+use Rattle.slots.proofs.rows.place_row.Tie as tie
+
+count-row-requires : tie.Need-count-row-requires
+count-row-requires c κs = search needs
+
+returns : tie.Need-returns
+returns c =
+    let s = c .before .before .args in
+    c .before .count-row .ensures ∙ sym (first-some (countRows (s .p) (s .size)) (row7 (s .p) (s .size) (s .slot) ∷ row8 (s .p) (s .n) ∷ []) (λ e. c .if1 .taken (c .before .count-row .ensures ∙ e)))
+
+slots-in-requires : tie.Need-slots-in-requires
+slots-in-requires c κs =
+    let h = sized (c .before .before .args .p) (c .before .before .args .size) (sym (c .before .count-row .ensures) ∙ c .if1 .left) in
+    (h .0 .dimension-from, h .0 .dimension-to, h .0 .width-from, h .1)
+
+word-count-requires : tie.Need-word-count-requires
+word-count-requires c κs =
+    let h = sized (c .before .before .before .args .p) (c .before .before .before .args .size) (sym (c .before .before .count-row .ensures) ∙ c .before .if1 .left) in
+    (h .0 .dimension-from, h .0 .dimension-to)
+
+row-requires : tie.Need-row-requires
+row-requires c κs = search needs
+
+row-requires-2 : tie.Need-row-requires-2
+row-requires-2 c κs = search needs
+
+returns-2 : tie.Need-returns-2
+returns-2 c =
+    let s = c .before .before .before .before .before .before .args in
+    let e = sym (c .before .before .before .before .before .count-row .ensures) ∙ c .before .before .before .before .if1 .left in
+    rw (c .row2 .ensures, c .before .row .ensures, c .before .before .word-count .ensures, c .before .before .before .slots-in .ensures) (sym (first-zero (countRows (s .p) (s .size)) (row7 (s .p) (s .size) (s .slot) ∷ row8 (s .p) (s .n) ∷ []) refl e))
+
+pub place-row-spec : {M : Type 1} → statement M
+place-row-spec =
+    tie.close
+    (tie.spec
+    count-row-requires
+    returns
+    slots-in-requires
+    word-count-requires
+    row-requires
+    row-requires-2
+    returns-2)
