@@ -7,7 +7,8 @@ use native.Mathlib.Nat.{add-zero}
 use native.Mathlib.Decide.{decLe}
 use native.Mathlib.Omega.{arith}
 use lib.ListN.{length, getD, set, take, length-append, length-take, drop}
-use lib.Seq.{slice, length-take-le, take-add, take-append-add, drop-at, sets-eq, sets, length-sets, take-nil, take-all, getD-set-other}
+use mathlib.Core.Logic.{_⊎_, inl, inr}
+use lib.Seq.{slice, take-set-le, take-set-lt, drop-set-lt, length-take-le, take-add, take-append-add, drop-at, sets-eq, sets, length-sets, take-nil, take-all, getD-set-other}
 use Rattle.bits.specs.Stream.{numberBits, write, Written}
 use Rattle.bits.proofs.NumberLaws.{length-numberBits, numberBits-add, numberBits-take}
 
@@ -84,6 +85,31 @@ module _ (d : List Bool) (at limit : ℕ) (code : List Bool) (i : ℕ) (z : Bool
   pub write-beyond : limit ≤ i → getD (write d at limit code) i z ≡ getD d i z
   unfolding write
   write-beyond h = sets-other d at (take (limit - at) code) i z (λ k l e. omega (arith, length-take (limit - at) code))
+
+-- a range that ends before the place, or starts at the limit or after it, stays as it is
+slice-set : (f t i : ℕ) (l : List Bool) (a : Bool) → (i < f) ⊎ (t ≤ i) → slice f t (set l i a) ≡ slice f t l
+slice-set f t i l a (inr h) = ap (drop f) (take-set-le t l i a h)
+slice-set f t i l a (inl h) = go (decLe t i)
+  where
+    go : Dec (t ≤ i) → drop f (take t (set l i a)) ≡ drop f (take t l)
+    go (yes k) = ap (drop f) (take-set-le t l i a k)
+    go (no k) = ap (drop f) (take-set-lt t l i a (omega arith)) ∙ drop-set-lt f (take t l) i a h
+
+slice-sets-before : (f t at : ℕ) (l vs : List Bool) → t ≤ at → slice f t (sets l at vs) ≡ slice f t l
+slice-sets-before f t at l [] h = refl
+slice-sets-before f t at l (v ∷ vs) h = slice-sets-before f t (suc at) (set l at v) vs (omega arith) ∙ slice-set f t at l v (inr h)
+
+slice-sets-after : (f t at : ℕ) (l vs : List Bool) → at + length vs ≤ f → slice f t (sets l at vs) ≡ slice f t l
+slice-sets-after f t at l [] h = refl
+slice-sets-after f t at l (v ∷ vs) h = slice-sets-after f t (suc at) (set l at v) vs (omega arith) ∙ slice-set f t at l v (inl (omega arith))
+
+pub slice-write-before : (d : List Bool) (at limit f t : ℕ) (code : List Bool) → t ≤ at → slice f t (write d at limit code) ≡ slice f t d
+unfolding write
+slice-write-before d at limit f t code h = slice-sets-before f t at d (take (limit - at) code) h
+
+pub slice-write-after : (d : List Bool) (at limit f t : ℕ) (code : List Bool) → at ≤ limit → limit ≤ f → slice f t (write d at limit code) ≡ slice f t d
+unfolding write
+slice-write-after d at limit f t code k h = slice-sets-after f t at d (take (limit - at) code) (omega (arith, length-take (limit - at) code))
 
 -- a code that is below the limit stands in the stream from its place on, and after it all is as it was
 pub slice-write : (d : List Bool) (at limit end : ℕ) (code : List Bool) → at + length code ≤ limit → limit ≤ end → end ≤ length d

@@ -77,7 +77,7 @@ exponent-fits : (f : Format) (ws : List ℕ) → anySpecial f ws ≡ false → b
 exponent-fits binary32 ws h = omega (arith, largest-lt binary32 ws h)
 exponent-fits binary64 ws h = omega (arith, largest-lt binary64 ws h)
 
-words-map-in : (w : ℕ) (g : ℕ → ℕ) (l : List ℕ) → ((i : ℕ) → i < length l → g (getD l i 0) < 2 ^ w) → Words w (map g l)
+pub words-map-in : (w : ℕ) (g : ℕ → ℕ) (l : List ℕ) → ((i : ℕ) → i < length l → g (getD l i 0) < 2 ^ w) → Words w (map g l)
 words-map-in w g [] h i = pow-pos w
 words-map-in w g (x ∷ l) h zero = h 0 (omega arith)
 words-map-in w g (x ∷ l) h (suc i) = words-map-in w g l (λ j k. h (suc j) (omega arith)) i

@@ -3,3 +3,4 @@ pub mod RowLaws
 pub mod SlotLaws
 pub mod Exact
 pub mod Outcomes
+pub mod Garbage
