@@ -1,0 +1,14 @@
+-- The laws of `predict`.
+pub mod Cases
+pub mod ByteLaws
+pub mod CodeLaws
+pub mod StepLaws
+pub mod Sound
+pub mod RoundTrip
+pub mod OnlyStreams
+pub mod Lengths
+pub mod WriteLaws
+pub mod Rows
+pub mod StepCases
+pub mod StepBounds
+pub mod Promises

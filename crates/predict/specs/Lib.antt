@@ -1,0 +1,7 @@
+-- The definitions that the contracts of `predict` and `fpc` cite.
+pub mod Predictors
+pub mod Bytes
+pub mod Stream
+pub mod Reading
+pub mod Outcome
+pub mod Calls
