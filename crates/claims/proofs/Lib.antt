@@ -1,4 +1,6 @@
 -- What is claimed, each under a name of its own.
 pub mod Cases
+pub mod Demand2Fpc
 pub mod Demand3
 pub mod PlanesBack
+pub mod RunBack

@@ -38,17 +38,33 @@ module _ (f d vs : List ℕ) (good : goodTables f d ≡ true) (few : length vs �
       ∙ ap (readInto (length f) doubles) (read-stream (length f) vs h few)
       ∙ delivered-done (length f) vs vs doubles room
 
+-- a writer that answers 0 was lent good tables, at most 4,096 doubles, and room for their stream
+pub write-answers-0 : (f d vs out : List ℕ) → writeOutcome f d vs out .answer ≡ 0
+    → (goodTables f d ≡ true) × (length vs ≤ mostDoubles) × (length (stream (length f) vs) ≤ length out)
+unfolding writeOutcome delivered done
+write-answers-0 f d vs out e =
+    go (goodTables f d) refl (ltb mostDoubles (length vs)) (ltb-false _ _) (ltb (length out) (length (stream (length f) vs))) (ltb-false _ _) e
+  where
+    go : (g : Bool) → goodTables f d ≡ g → (l : Bool) → (l ≡ false → length vs ≤ mostDoubles) → (r : Bool) → (r ≡ false → length (stream (length f) vs) ≤ length out)
+        → cond (not g) (unchanged 20 out f d) (cond l (unchanged 21 out f d) (cond r (zeroed 22 (length (stream (length f) vs)) (length f) out) (done (length f) vs (stream (length f) vs) out))) .answer ≡ 0
+        → (goodTables f d ≡ true) × (length vs ≤ mostDoubles) × (length (stream (length f) vs) ≤ length out)
+    go false eg l el r er e = absurd (omega arith)
+    go true eg true el r er e = absurd (omega arith)
+    go true eg false el true er e = absurd (omega arith)
+    go true eg false el false er e = (eg, el refl, er refl)
+
 -- what the writer wrote, the reader with tables of the same size returns, bit for bit, and both leave the same tables
-pub written-is-read : (f d f′ d′ vs out doubles : List ℕ) → goodTables f d ≡ true → goodTables f′ d′ ≡ true → length f′ ≡ length f
-    → length vs ≤ mostDoubles → AllBelow (2 ^ 64) vs → length (stream (length f) vs) ≤ length out → length vs ≤ length doubles
+pub written-is-read : (f d f′ d′ vs out doubles : List ℕ) → writeOutcome f d vs out .answer ≡ 0 → goodTables f′ d′ ≡ true → length f′ ≡ length f
+    → AllBelow (2 ^ 64) vs → length vs ≤ length doubles
     → readOutcome f′ d′ (take (writeOutcome f d vs out .count) (writeOutcome f d vs out .out)) doubles
     ≡ record { answer = 0; count = length vs; out = vs ++ drop (length vs) doubles; f = writeOutcome f d vs out .f; d = writeOutcome f d vs out .d }
 unfolding done
-written-is-read f d f′ d′ vs out doubles good good′ size few h room room′ =
+written-is-read f d f′ d′ vs out doubles e good′ size h room′ =
+    let a = write-answers-0 f d vs out e in
     let s = stream (length f) vs in
-    let w = write-done f d vs good few out room in
+    let w = write-done f d vs (a .0) (a .1) out (a .2) in
     let t : take (length s) (s ++ drop (length s) out) ≡ s = take-at s (drop (length s) out) (length s) refl in
-    let r : readOutcome f′ d′ (stream (length f) vs) doubles ≡ done (length f) vs vs doubles = rw (← size) (read-done f′ d′ vs good′ few doubles h room′) in
+    let r : readOutcome f′ d′ (stream (length f) vs) doubles ≡ done (length f) vs vs doubles = rw (← size) (read-done f′ d′ vs good′ (a .1) doubles h room′) in
     rw (w, t) r
 
 -- document 01's row 23: tables and input are good, and the bytes are not the stream, for these tables' size, of any run of at most 4,096 doubles
