@@ -6,12 +6,12 @@ use native.Mathlib.Omega.{arith}
 use native.Mathlib.Nat.{add-zero}
 use lib.ListN.{length, drop, getD, replicate, length-append, drop-of-length-le}
 use lib.Seq.{sets, length-sets, drop-cons, drop-length}
-use Rattle.predict.specs.declared.Place.{Place}
-use Rattle.predict.specs.Predictors.{Predictors, start, update, after}
+use Rattle.steps.specs.declared.Place.{Place}
+use Rattle.predict.specs.Predictors.{Predictors, start, update, after, Tables}
 use Rattle.predict.specs.Stream.{pairBytes, oddBytes, streamFrom, stream, tableF, tableD}
-use Rattle.predict.specs.Calls.{Tables, Within, predictors, Appended}
+use Rattle.steps.specs.Calls.{Within, predictors, Appended}
 use Rattle.fpc.specs.Calls.{Stand}
-use Rattle.predict.proofs.WriteLaws.{start-is, start-within, sets-append, same-size, within-next}
+use Rattle.steps.proofs.WriteLaws.{start-is, start-within, sets-append, same-size, within-next}
 use Rattle.predict.proofs.Lengths.{pair-le}
 
 -- what writing leaves: the next place, the output and both tables

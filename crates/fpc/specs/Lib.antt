@@ -1,2 +1,2 @@
--- The definitions that the contracts of `fpc` cite, beside those of `predict`.
+-- The definitions that the contracts of `fpc` cite, beside those of `predict` and `steps`.
 pub mod Calls

@@ -1,25 +1,25 @@
 // FPC streams: document 01's "FPC stream", writer and reader.
-use predict::Coded;
-use predict::Place;
 use predict::Step;
-use predict::advance;
-use predict::encode;
-use predict::odd_end;
-use predict::put_pair;
-use predict::read_step;
-use predict::slices::byte;
-use predict::slices::clear;
-use predict::slices::put_double;
+use steps::Coded;
+use steps::Place;
+use steps::advance;
+use steps::encode;
+use steps::odd_end;
+use steps::put_pair;
+use steps::read_step;
+use steps::slices::byte;
+use steps::slices::clear;
+use steps::slices::put_double;
 ghost use mathlib.Core.Path.{_≡_};
 ghost use mathlib.Core.Bool.{_&&_};
 ghost use lib.Dec.{eqb};
 ghost use Prim.Native.Nat.{_^_, _≤_};
 ghost use lib.ListN.{length};
-ghost use Rattle.predict.specs.Predictors.{update};
+ghost use Rattle.predict.specs.Predictors.{update, Tables};
 ghost use Rattle.predict.specs.Stream.{pairBytes, oddBytes, stream};
 ghost use Rattle.predict.specs.Reading.{mostDoubles, read};
 ghost use Rattle.predict.specs.Outcome.{goodSize, delivered, writeOutcome, readInto, readOutcome};
-ghost use Rattle.predict.specs.Calls.{Tables, Within, predictors, Appended};
+ghost use Rattle.steps.specs.Calls.{Within, predictors, Appended};
 ghost use Rattle.fpc.specs.Calls.{Stand, RanAs, Refused, outcome};
 
 // What a public call answers: document 01's answer number, and a count.

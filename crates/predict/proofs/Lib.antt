@@ -7,8 +7,5 @@ pub mod Sound
 pub mod RoundTrip
 pub mod OnlyStreams
 pub mod Lengths
-pub mod WriteLaws
 pub mod Rows
-pub mod StepCases
-pub mod StepBounds
 pub mod Promises

@@ -10,7 +10,7 @@ use borrow.Author.Tests.{eqb-true, lt-ltb, le-ltb}
 use Rattle.predict.specs.Stream.{stream}
 use Rattle.predict.specs.Reading.{read, mostDoubles}
 use Rattle.predict.specs.Outcome.{goodSize, goodTables, mostBytes, unchanged, delivered, writeOutcome, readInto, readOutcome}
-use Rattle.predict.specs.Calls.{Tables}
+use Rattle.predict.specs.Predictors.{Tables}
 
 -- a good size is from 1 to 1,024
 good-bounds : (n : ℕ) → goodSize n ≡ true → (0 < n) × (n ≤ 1024)

@@ -1,7 +1,6 @@
--- The definitions that the contracts of `predict` and `fpc` cite.
+-- The definitions that the contracts of `predict`, `steps` and `fpc` cite.
 pub mod Predictors
 pub mod Bytes
 pub mod Stream
 pub mod Reading
 pub mod Outcome
-pub mod Calls

@@ -7,8 +7,8 @@ use lib.Dec.{lit<}
 use lib.ListN.{length}
 use borrow.Author.Needs.{needs}
 use Rattle.predict.specs.Predictors.{Predictors, fcm, dfcm}
-use Rattle.predict.specs.Calls.{predictors, Appended}
-use Rattle.predict.proofs.WriteLaws.{odd-is}
+use Rattle.steps.specs.Calls.{predictors, Appended}
+use Rattle.steps.proofs.WriteLaws.{odd-is}
 use Rattle.predict.proofs.CodeLaws.{half-lt}
 use Rattle.fpc.proofs.write_odd.Statement.{statement}
 use Rattle.fpc.proofs.write_odd.Tie as tie

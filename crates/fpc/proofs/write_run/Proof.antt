@@ -4,7 +4,7 @@ use Prim.Native.Nat.{ℕ, _-_}
 use native.Mathlib.Omega.{arith}
 use lib.ListN.{length}
 use borrow.Author.Needs.{needs}
-use Rattle.predict.specs.Calls.{Appended}
+use Rattle.steps.specs.Calls.{Appended}
 use Rattle.fpc.specs.Calls.{Stand}
 use Rattle.predict.specs.Stream.{stream}
 use Rattle.fpc.proofs.RunLaws.{Writing, writing-start, writing-pair, writing-done, writing-odd}
