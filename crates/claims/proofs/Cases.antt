@@ -1,6 +1,8 @@
 -- The table of cases holds: the definitions compute to what document 01 states.
 use mathlib.Core.Path.{refl}
-use Prim.Native.Nat.{ℕ}
+use Prim.Native.Nat.{ℕ, suc}
+use native.Mathlib.Nat.{zero-mod}
+use lib.Count.{leadingZeros}
 use lib.Ieee.{ofBits, toBits, round}
 use Rattle.words.specs.Word.{plus, minus, half, nega, unnega, flip}
 use Rattle.planes.specs.Coder.{planeCode, planeNext, planesCode}
@@ -13,15 +15,23 @@ use Rattle.floats.specs.Integer.{signed, toInteger, scaled, toPattern, whole}
 use Rattle.codec.specs.Head.{planesNeeded, exactPlanes}
 use Rattle.codec.specs.Code.{lossyIntegers, lossyFloats, exactIntegers, exactFloats, definedCode}
 use Rattle.codec.specs.Read.{readIntegers, readLossyFloats, readExactFloats, readCode}
+use Rattle.predict.specs.Predictors.{side, fcmHash, dfcmHash}
+use Rattle.predict.specs.Stream.{zeroBytes, residual, code, halfByte, remaining, pairBytes, oddBytes, stream}
+use Rattle.predict.specs.Reading.{decoded, coded, stepOf, read}
+use Rattle.predict.specs.Outcome.{goodSize, goodTables, delivered, readOutcome}
+use Rattle.bits.specs.Stream.{write}
+use Rattle.slots.specs.Rules.{slotsIn, codeOf}
+use Rattle.slots.specs.Outcome.{storeOutcome}
 use Rattle.claims.specs.Table.{Table}
 
 -- everything that the cases compute with
 unfoldable computed : ℕ
 unfolding plus minus half twiceLess nega unnega flip planeCode planeNext planesCode readPlane readNext readWords lift unlift differ undiffer along reorder restore coefficients values
     toInteger toPattern signed scaled whole ofBits toBits round planesNeeded exactPlanes lossyIntegers lossyFloats exactIntegers exactFloats definedCode
-    readIntegers readExactFloats readLossyFloats readCode
+    readIntegers readExactFloats readLossyFloats readCode slotsIn codeOf write storeOutcome
+    leadingZeros side fcmHash dfcmHash zeroBytes residual code halfByte remaining pairBytes oddBytes stream decoded coded stepOf read goodSize goodTables delivered readOutcome
 computed = 0
 
 pub cases : Table
 unfolding computed
-cases = (refl, (refl, refl), refl, refl, (refl, refl), refl, (refl, refl), λ b. (refl, refl), (refl, refl), refl, refl)
+cases = (refl, (refl, refl), refl, (refl, refl, refl), refl, (refl, refl), refl, (refl, refl), λ b. (refl, refl), (refl, refl), refl, refl, λ n. (refl, rw (zero-mod (suc n)), refl), (λ n. refl, refl), λ room. refl, refl, refl, refl, refl, refl)

@@ -2,6 +2,8 @@
 pub mod Cases
 pub mod Demand1
 pub mod Demand2
+pub mod Demand2Fpc
 pub mod Demand3
 pub mod Isolation
 pub mod PlanesBack
+pub mod RunBack

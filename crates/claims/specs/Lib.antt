@@ -1,2 +1,3 @@
 -- The statements that `claims` proves, and the definitions that its contracts cite.
 pub mod Table
+pub mod Runs

@@ -2,7 +2,7 @@
 use mathlib.Core.Path.{_≡_}
 use mathlib.Core.Bool.{Bool, true, false}
 use mathlib.Core.List.{List, [], _∷_, _++_, map}
-use Prim.Native.Nat.{ℕ, _+_, _-_, _^_}
+use Prim.Native.Nat.{ℕ, suc, _+_, _-_, _^_}
 use lib.Ieee.{binary32}
 use lib.ListN.{length, take, replicate}
 use Rattle.bits.specs.Stream.{bit, bitsOf}
@@ -11,6 +11,9 @@ use Rattle.planes.specs.Coder.{planeCode, planeNext}
 use Rattle.planes.specs.Reader.{readWords}
 use Rattle.codec.specs.Code.{definedCode}
 use Rattle.codec.specs.Read.{readCode}
+use Rattle.slots.specs.Outcome.{storeOutcome}
+use Rattle.predict.specs.Stream.{stream}
+use Rattle.predict.specs.Outcome.{zeroed, readOutcome}
 
 -- bits as the cases write them, in digits 0 and 1
 abbrev pub bits : List ℕ → List Bool
@@ -34,6 +37,13 @@ P2 = (length (integers (1 ∷ 1 ∷ 1 ∷ 1 ∷ [])) ≡ 39) × (integers (1 ∷
 -- P3: "its second block: 136 bits, all ones"
 abbrev pub P3 : Type 0
 P3 = integers (0xaaaa_aaab ∷ 0x5555_5556 ∷ 0xaaaa_aaac ∷ 0x5555_5558 ∷ []) ≡ replicate 136 true
+
+-- P4: "P3 at W = 136 done, at 135 answer 10", with the bits it needs, in an archive of one slot
+abbrev pub P4 : Type 0
+P4 =
+    (storeOutcome (record { kind = 0; dimension = 1; mode = 1; planes = 32; width = 136 }) (replicate 17 0) 0 (0xaaaa_aaab ∷ 0x5555_5556 ∷ 0xaaaa_aaac ∷ 0x5555_5558 ∷ []) .answer ≡ 0)
+    × (storeOutcome (record { kind = 0; dimension = 1; mode = 1; planes = 32; width = 135 }) (replicate 17 0) 0 (0xaaaa_aaab ∷ 0x5555_5556 ∷ 0xaaaa_aaac ∷ 0x5555_5558 ∷ []) .answer ≡ 10)
+    × (storeOutcome (record { kind = 0; dimension = 1; mode = 1; planes = 32; width = 135 }) (replicate 17 0) 0 (0xaaaa_aaab ∷ 0x5555_5556 ∷ 0xaaaa_aaac ∷ 0x5555_5558 ∷ []) .count ≡ 136)
 
 -- P5: "four floats 1.0 (0x3F800000), exact: 21 bits, 10 00000001 01000 0 110 10"
 abbrev pub P5 : Type 0
@@ -77,5 +87,44 @@ CutScanAtLast = readWords 32 4 1 (bits (1 ∷ 0 ∷ 0 ∷ 0 ∷ [])) ≡ 0 ∷ 0
 abbrev pub CutVerbatim : Type 0
 CutVerbatim = readWords 32 4 2 (bits (replicate 9 1)) ≡ (2 ^ 31 + 2 ^ 30) ∷ (2 ^ 31 + 2 ^ 30) ∷ 2 ^ 31 ∷ 2 ^ 31 ∷ []
 
+-- P10: "FPC of 0.0: 76 00; twice: 77; of nothing: nothing", for tables of every size from 1
+abbrev pub P10 : Type 0
+P10 =
+    (n : ℕ)
+    → (stream (suc n) (0 ∷ []) ≡ 0x76 ∷ 0x00 ∷ []) × (stream (suc n) (0 ∷ 0 ∷ []) ≡ 0x77 ∷ []) × (stream (suc n) [] ≡ [])
+
+-- P11: "FPC of 1.0 (0x3FF0000000000000): 06 00 00 00 00 00 00 f0 3f 00", for tables of every size from 1; "twice, tables of 16: 07 00 00 00 00 00 00 f0 3f"
+abbrev pub P11 : Type 0
+P11 =
+    ((n : ℕ)
+    → stream (suc n) (0x3ff0_0000_0000_0000 ∷ []) ≡ 0x06 ∷ 0x00 ∷ 0x00 ∷ 0x00 ∷ 0x00 ∷ 0x00 ∷ 0x00 ∷ 0xf0 ∷ 0x3f ∷ 0x00 ∷ [])
+    × (stream 16 (0x3ff0_0000_0000_0000 ∷ 0x3ff0_0000_0000_0000 ∷ []) ≡ 0x07 ∷ 0x00 ∷ 0x00 ∷ 0x00 ∷ 0x00 ∷ 0x00 ∷ 0x00 ∷ 0xf0 ∷ 0x3f ∷ [])
+
+-- P12: "FPC 66 00 00 is 23", here with tables of 16, whatever room is lent
+abbrev pub P12 : Type 0
+P12 = (room : List ℕ) → readOutcome (replicate 16 0) (replicate 16 0) (0x66 ∷ 0x00 ∷ 0x00 ∷ []) room ≡ zeroed 23 0 16 room
+
+-- four leading zero bytes count as three
+abbrev pub FourAsThree : Type 0
+FourAsThree = stream 16 (0x1234_5678 ∷ []) ≡ 0x36 ∷ 0x78 ∷ 0x56 ∷ 0x34 ∷ 0x12 ∷ 0x00 ∷ 0x00 ∷ []
+
+-- the second double, 8, is nearer to the dfcm prediction, 10, than to the fcm one, 5
+abbrev pub DfcmTaken : Type 0
+DfcmTaken = stream 16 (5 ∷ 8 ∷ []) ≡ 0x6e ∷ 0x05 ∷ 0x02 ∷ []
+
+-- both predictions of the third double are 7: a tie, which takes fcm
+abbrev pub TieTakesFcm : Type 0
+TieTakesFcm = stream 16 (7 ∷ 7 ∷ 7 ∷ []) ≡ 0x67 ∷ 0x07 ∷ 0x76 ∷ 0x00 ∷ []
+
+-- an odd run of three, whose third double the dfcm side predicts
+abbrev pub OddThree : Type 0
+OddThree = stream 16 (1 ∷ 2 ∷ 3 ∷ []) ≡ 0x6f ∷ 0x01 ∷ 0xf6 ∷ 0x00 ∷ []
+
+-- 100.0, 101.0, 102.0 and 103.0: v / 2^48 is 0x4059, which wraps to place 9 of 16
+abbrev pub HashWraps : Type 0
+HashWraps =
+    stream 16 (0x4059_0000_0000_0000 ∷ 0x4059_4000_0000_0000 ∷ 0x4059_8000_0000_0000 ∷ 0x4059_c000_0000_0000 ∷ [])
+    ≡ 0x00 ∷ 0x00 ∷ 0x00 ∷ 0x00 ∷ 0x00 ∷ 0x00 ∷ 0x00 ∷ 0x59 ∷ 0x40 ∷ 0x00 ∷ 0x00 ∷ 0x00 ∷ 0x00 ∷ 0x00 ∷ 0x40 ∷ 0x59 ∷ 0x40 ∷ 0xff ∷ []
+
 abbrev pub Table : Type 0
-Table = P1 × P2 × P3 × P5 × P6 × P7 × P8 × P9 × CutScan × CutScanAtLast × CutVerbatim
+Table = P1 × P2 × P3 × P4 × P5 × P6 × P7 × P8 × P9 × CutScan × CutScanAtLast × CutVerbatim × P10 × P11 × P12 × FourAsThree × DfcmTaken × TieTakesFcm × OddThree × HashWraps

@@ -1,5 +1,6 @@
 // Calls put together, and what follows from their contracts alone.
 pub mod archives;
+pub mod streams;
 
 ghost use mathlib.Core.Path.{_≡_};
 ghost use mathlib.Core.List.{map};

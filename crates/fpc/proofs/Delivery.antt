@@ -9,7 +9,7 @@ use lib.ListN.{length, drop, replicate}
 use lib.Seq.{sets, sets-eq}
 use borrow.Author.Tests.{lt-ltb, le-ltb}
 use Rattle.fpc.specs.declared.Reply.{Reply}
-use Rattle.fpc.specs.Outcome.{done, delivered, readInto}
+use Rattle.predict.specs.Outcome.{done, delivered, readInto}
 use Rattle.fpc.specs.Calls.{Stand, RanAs, Refused, outcome}
 
 -- a part without places changes nothing

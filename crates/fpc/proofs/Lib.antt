@@ -1,19 +1,4 @@
 -- The laws of `fpc`.
-pub mod Cases
-pub mod Bools
-pub mod Xor
-pub mod ByteLaws
-pub mod CodeLaws
-pub mod StepLaws
-pub mod Sound
-pub mod RoundTrip
-pub mod OnlyStreams
-pub mod Lengths
-pub mod WriteLaws
 pub mod RunLaws
 pub mod Delivery
-pub mod Rows
-pub mod StepCases
-pub mod StepBounds
 pub mod ReadLaws
-pub mod Promises

@@ -9,16 +9,17 @@ use native.Mathlib.Numerals.{add-one}
 use native.Mathlib.Omega.{arith}
 use lib.ListN.{length, drop, getD, set, replicate, length-set, drop-of-length-le}
 use lib.Seq.{sets, drop-cons}
-use Rattle.fpc.specs.declared.Place.{Place}
+use Rattle.steps.specs.declared.Place.{Place}
 use Rattle.fpc.specs.declared.Reply.{Reply}
-use Rattle.fpc.specs.declared.Step.{Step}
-use Rattle.fpc.specs.declared.Step.the-variants.{Double, Bad}
-use Rattle.fpc.specs.Predictors.{Predictors, start, update, after}
-use Rattle.fpc.specs.Stream.{tableF, tableD}
-use Rattle.fpc.specs.Reading.{oddEnd, doubleThen, pairThen, readPairs, mostDoubles, read}
-use Rattle.fpc.specs.Calls.{Tables, Within, predictors, Stepped, RanAs}
-use Rattle.fpc.proofs.WriteLaws.{start-is, start-within, same-size, within-next}
-use Rattle.fpc.proofs.StepBounds.{bad, onward}
+use Rattle.predict.specs.declared.Step.{Step}
+use Rattle.predict.specs.declared.Step.the-variants.{Double, Bad}
+use Rattle.predict.specs.Predictors.{Predictors, start, update, after, Tables}
+use Rattle.predict.specs.Stream.{tableF, tableD}
+use Rattle.predict.specs.Reading.{oddEnd, doubleThen, pairThen, readPairs, mostDoubles, read}
+use Rattle.steps.specs.Calls.{Within, predictors, Stepped}
+use Rattle.fpc.specs.Calls.{RanAs}
+use Rattle.steps.proofs.WriteLaws.{start-is, start-within, same-size, within-next}
+use Rattle.steps.proofs.StepBounds.{bad, onward}
 
 -- what reading leaves: how many doubles, the output and both tables
 pub record Took : Type 0 where

@@ -5,13 +5,14 @@ use Prim.Native.Nat.{ℕ, suc, _+_, _*_, _≤_, _<_}
 use native.Mathlib.Omega.{arith}
 use native.Mathlib.Nat.{add-zero}
 use lib.ListN.{length, drop, getD, replicate, length-append, drop-of-length-le}
-use lib.Seq.{sets, length-sets, drop-cons}
-use Rattle.fpc.specs.declared.Place.{Place}
-use Rattle.fpc.specs.Predictors.{Predictors, start, update, after}
-use Rattle.fpc.specs.Stream.{pairBytes, oddBytes, streamFrom, stream, tableF, tableD}
-use Rattle.fpc.specs.Calls.{Tables, Within, predictors, Appended, Stand}
-use Rattle.fpc.proofs.WriteLaws.{start-is, start-within, sets-append, same-size, within-next}
-use Rattle.fpc.proofs.Lengths.{pair-le}
+use lib.Seq.{sets, length-sets, drop-cons, drop-length}
+use Rattle.steps.specs.declared.Place.{Place}
+use Rattle.predict.specs.Predictors.{Predictors, start, update, after, Tables}
+use Rattle.predict.specs.Stream.{pairBytes, oddBytes, streamFrom, stream, tableF, tableD}
+use Rattle.steps.specs.Calls.{Within, predictors, Appended}
+use Rattle.fpc.specs.Calls.{Stand}
+use Rattle.steps.proofs.WriteLaws.{start-is, start-within, sets-append, same-size, within-next}
+use Rattle.predict.proofs.Lengths.{pair-le}
 
 -- what writing leaves: the next place, the output and both tables
 pub record Written : Type 0 where
@@ -46,11 +47,7 @@ drop-two vs i h =
 pub drop-one : (vs : List ℕ) (i : ℕ) → i + 1 ≡ length vs → drop i vs ≡ getD vs i 0 ∷ []
 drop-one vs i h =
     let q : suc i ≡ length vs = omega arith in
-    rw (drop-cons vs i 0 (omega arith), q) (ap (λ (l : List ℕ). getD vs i 0 ∷ l) (drop-all vs))
-  where
-    drop-all : (l : List ℕ) → drop (length l) l ≡ []
-    drop-all [] = refl
-    drop-all (x ∷ l) = drop-all l
+    rw (drop-cons vs i 0 (omega arith), q) (ap (λ (l : List ℕ). getD vs i 0 ∷ l) (drop-length vs))
 
 -- a whole run, written from the start
 pub whole-run : (size : ℕ) (vs out : List ℕ) (r : ℕ) (out′ f′ d′ : List ℕ) → record { next = r; out = out′; f = f′; d = d′ } ≡ wroteFrom size (start size) out 0 vs

@@ -1,67 +1,20 @@
 -- What the functions of the crate compute, in terms of the definitions of the stream.
 use mathlib.Core.Path.{_≡_}
-use mathlib.Core.Bool.{cond}
-use mathlib.Core.List.{List, _∷_, _++_}
+use mathlib.Core.List.{List}
 use mathlib.Core.Option.{Option, none, some}
-use Prim.Native.Nat.{ℕ, _+_, _*_, _%_, _≤_, _<_}
+use Prim.Native.Nat.{ℕ}
 use lib.ListN.{length, replicate}
 use lib.Seq.{sets}
-use Rattle.fpc.specs.declared.Coded.{Coded}
-use Rattle.fpc.specs.declared.Place.{Place}
-use Rattle.fpc.specs.declared.Predicted.{Predicted}
 use Rattle.fpc.specs.declared.Reply.{Reply}
-use Rattle.fpc.specs.declared.Step.{Step}
-use Rattle.fpc.specs.declared.Step.the-variants.{Bad}
-use Rattle.fpc.specs.Predictors.{Predictors, fcm, dfcm, update}
-use Rattle.fpc.specs.Bytes.{lowBytes}
-use Rattle.fpc.specs.Stream.{half, residual, bytesOf, tableF, tableD}
-use Rattle.fpc.specs.Reading.{numberOf, coded, stepOf, placed}
-use Rattle.fpc.specs.Outcome.{Outcome}
-
--- two tables of one size, from 1 to 1,024
-pub record Tables (f d : List ℕ) : Type 0 where
-  pub same : length d ≡ length f
-  pub some-place : 0 < length f
-  pub small : length f ≤ 1024
-
--- and both hashes are places in them
-pub record Within (f d : List ℕ) (p : Place) : Type 0 where
-  pub tables : Tables f d
-  pub h-in : p .h < length f
-  pub g-in : p .g < length f
-
--- the predictors that two tables and a place make
-abbrev pub predictors : List ℕ → List ℕ → Place → Predictors
-predictors f d p = record { f = f; d = d; h = p .h; g = p .g; last = p .last }
-
--- both predictions
-abbrev pub predicted : Predictors → Predicted
-predicted s = record { fcm = fcm s; dfcm = dfcm s }
-
--- the half byte and the xor of the double v after the predictors s, and the predictors after v
-pub record Encoded (size : ℕ) (s : Predictors) (v : ℕ) (r : Coded) (s′ : Predictors) : Type 0 where
-  pub half-is : r .half ≡ half s v
-  pub xor-is : r .xor ≡ residual (fcm s) (dfcm s) v
-  pub next : s′ ≡ update size s v
-
--- the bytes of two doubles as they are written: the halves in one byte, then what remains of both xors
-abbrev pub pairOf : Coded → Coded → List ℕ
-pairOf a b = (16 * a .half + b .half) ∷ (lowBytes (bytesOf (a .half % 8)) (a .xor) ++ lowBytes (bytesOf (b .half % 8)) (b .xor))
-
--- the output after numbers were written from a place on, and the next place; what does not fit is left out, and the place moves on all the same
-pub record Appended (out : List ℕ) (at : ℕ) (numbers : List ℕ) (next : ℕ) (out′ : List ℕ) : Type 0 where
-  pub moved : next ≡ at + length numbers
-  pub put : out′ ≡ sets out at numbers
+use Rattle.predict.specs.declared.Step.the-variants.{Bad}
+use Rattle.predict.specs.Stream.{tableF, tableD}
+use Rattle.predict.specs.Reading.{numberOf}
+use Rattle.predict.specs.Outcome.{Outcome}
 
 -- both tables stand as after the last double of a run
 pub record Stand (size : ℕ) (vs f d : List ℕ) : Type 0 where
   pub f-is : f ≡ tableF size vs
   pub d-is : d ≡ tableD size vs
-
--- a step's answer at a place, where the bytes are those from that place on: the double and the next place, or bad; and document 01's number of it
-pub record Stepped (s : Predictors) (half : ℕ) (bytes : List ℕ) (at : ℕ) (r : Step) : Type 0 where
-  pub step : r ≡ placed at (stepOf (fcm s) (dfcm s) half bytes)
-  pub number : numberOf r ≡ cond (coded (fcm s) (dfcm s) half bytes) 0 23
 
 -- what a reading of bytes that give a run, or none, answers and leaves: 23 and a count of 0; or 0, how many doubles, the doubles and both tables.
 -- With 23 the tables and the output are as far as the reading came; the call above it clears the ones and lends no room in the other

@@ -1,7 +1,2 @@
--- The definitions that the contracts of `fpc` cite.
-pub mod Predictors
-pub mod Bytes
-pub mod Stream
-pub mod Reading
-pub mod Outcome
+-- The definitions that the contracts of `fpc` cite, beside those of `predict` and `steps`.
 pub mod Calls

@@ -8,9 +8,9 @@ use lib.Seq.{sets}
 use lib.ListN.{length}
 use borrow.Author.Needs.{needs}
 use Rattle.fpc.specs.Calls.{Stand}
-use Rattle.fpc.specs.Stream.{stream}
+use Rattle.predict.specs.Stream.{stream}
 use Rattle.fpc.proofs.Delivery.{cleared, short, whole}
-use Rattle.fpc.proofs.Lengths.{stream-le}
+use Rattle.predict.proofs.Lengths.{stream-le}
 use Rattle.fpc.proofs.write_measured.Statement.{statement}
 use Rattle.fpc.proofs.write_measured.Tie as tie
 

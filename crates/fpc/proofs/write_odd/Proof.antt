@@ -6,10 +6,10 @@ use native.Mathlib.Omega.{arith}
 use lib.Dec.{lit<}
 use lib.ListN.{length}
 use borrow.Author.Needs.{needs}
-use Rattle.fpc.specs.Predictors.{Predictors, fcm, dfcm}
-use Rattle.fpc.specs.Calls.{predictors, Appended}
-use Rattle.fpc.proofs.WriteLaws.{odd-is}
-use Rattle.fpc.proofs.CodeLaws.{half-lt}
+use Rattle.predict.specs.Predictors.{Predictors, fcm, dfcm}
+use Rattle.steps.specs.Calls.{predictors, Appended}
+use Rattle.steps.proofs.WriteLaws.{odd-is}
+use Rattle.predict.proofs.CodeLaws.{half-lt}
 use Rattle.fpc.proofs.write_odd.Statement.{statement}
 use Rattle.fpc.proofs.write_odd.Tie as tie
 

@@ -1,0 +1,50 @@
+-- Which case of a reading's step holds, from the tests of the code. Assumes nothing.
+use mathlib.Core.Path.{_≡_, sym, _∙_}
+use mathlib.Core.Bool.{true, false}
+use mathlib.Core.List.{List}
+use Prim.Native.Nat.{ℕ, _+_, _/_, _%_, _≤_, _<_}
+use lib.Bits.{bitXor}
+use lib.ListN.{length, take}
+use borrow.Author.Tests.{le-leb, lt-leb, eq-eqb, ne-eqb}
+use Rattle.predict.specs.declared.Step.the-variants.{Double, Bad}
+use Rattle.predict.specs.Bytes.{fromBytes}
+use Rattle.predict.specs.Predictors.{Predictors, fcm, dfcm, prediction}
+use Rattle.predict.specs.Stream.{bytesOf, halfByte}
+use Rattle.predict.specs.Reading.{decoded, coded, stepOf}
+use Rattle.steps.specs.Calls.{Stepped}
+
+module _ (s : Predictors) (half : ℕ) (bytes : List ℕ) (at : ℕ) where
+  refused : coded (fcm s) (dfcm s) half bytes ≡ false → Stepped s half bytes at Bad
+  unfolding stepOf
+  refused e = record { step = rw e; number = rw e }
+
+  accepted : coded (fcm s) (dfcm s) half bytes ≡ true → Stepped s half bytes at (Double (decoded (fcm s) (dfcm s) half bytes) (at + bytesOf (half % 8)))
+  unfolding stepOf
+  accepted e = record { step = rw e; number = rw e }
+
+  module _ (n : ℕ) (en : n ≡ bytesOf (half % 8)) where
+    -- a byte is missing
+    pub short : length bytes < n → Stepped s half bytes at Bad
+    unfolding coded
+    short h = refused (rw (lt-leb (bytesOf (half % 8)) (length bytes) (rw en at h)))
+
+    module _ (fit : n ≤ length bytes) (x : ℕ) (ex : x ≡ fromBytes (take n bytes)) (p : ℕ) (ep : p ≡ prediction (fcm s) (dfcm s) (half / 8)) (k : ℕ) (ek : k ≡ halfByte (fcm s) (dfcm s) (bitXor x p)) where
+      double-is : bitXor x p ≡ decoded (fcm s) (dfcm s) half bytes
+      unfolding decoded
+      double-is = rw (ex, ep, en)
+
+      half-is : halfByte (fcm s) (dfcm s) (decoded (fcm s) (dfcm s) half bytes) ≡ k
+      half-is = rw (← double-is) (sym ek)
+
+      fit′ : bytesOf (half % 8) ≤ length bytes
+      fit′ = rw en at fit
+
+      -- the rules give the double this half byte
+      pub whole : k ≡ half → Stepped s half bytes at (Double (bitXor x p) (at + n))
+      unfolding coded
+      whole e = rw (double-is, en) (accepted (rw (le-leb _ _ fit′, eq-eqb _ _ (half-is ∙ e))))
+
+      -- or another
+      pub other : (k ≡ half → ⊥) → Stepped s half bytes at Bad
+      unfolding coded
+      other e = refused (rw (le-leb _ _ fit′, ne-eqb _ _ (λ q. e (sym half-is ∙ q))))

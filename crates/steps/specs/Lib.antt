@@ -1,0 +1,2 @@
+-- The definitions that the contracts of `steps` cite, beside those of `predict`.
+pub mod Calls
