@@ -1,0 +1,144 @@
+// The calls that the static library exports: plain numbers in place of a record, a slice as pointer and length.
+ghost use mathlib.Core.Path.{_≡_};
+ghost use lib.ListN.{length};
+ghost use Rattle.bits.specs.Stream.{bitsOf};
+ghost use Rattle.slots.specs.Outcome.{countOutcome, bitOutcome, storeOutcome, readOutcome, slotOf};
+ghost use Rattle.predict.specs.Outcome.{writeOutcome, readOutcome as fpcReadOutcome};
+ghost use Rattle.fpc.specs.Calls.{outcome};
+ghost use Rattle.windlassow.specs.Plain.{params};
+
+// The block goes into the slot.
+#[no_mangle]
+pub extern "C" fn windlassow_store(
+    kind: u32,
+    dimension: u32,
+    mode: u32,
+    planes: u32,
+    width: u32,
+    archive: &mut [u8],
+    slot: usize,
+    words: &[u32],
+) -> slots::Reply
+    ensures { λ r. ⌜ (r .answer ≡ storeOutcome (params kind dimension mode planes width) (now (archive .entry)) slot (now (words .entry)) .answer)
+        × (r .count ≡ storeOutcome (params kind dimension mode planes width) (now (archive .entry)) slot (now (words .entry)) .count)
+        × (bitsOf (now (archive .exit)) ≡ storeOutcome (params kind dimension mode planes width) (now (archive .entry)) slot (now (words .entry)) .bits) ⌝ }
+{
+    slots::store(
+        slots::Params {
+            kind,
+            dimension,
+            mode,
+            planes,
+            width,
+        },
+        archive,
+        slot,
+        words,
+    )
+}
+
+// The slot's words go into the buffer.
+#[no_mangle]
+pub extern "C" fn windlassow_read(
+    kind: u32,
+    dimension: u32,
+    mode: u32,
+    planes: u32,
+    width: u32,
+    archive: &[u8],
+    slot: usize,
+    words: &mut [u32],
+) -> slots::Reply
+    ensures { λ r. ⌜ (r .answer ≡ readOutcome (params kind dimension mode planes width) (length (now (archive .entry))) slot (slotOf (params kind dimension mode planes width) (now (archive .entry)) slot) (now (words .entry)) .answer)
+        × (r .count ≡ readOutcome (params kind dimension mode planes width) (length (now (archive .entry))) slot (slotOf (params kind dimension mode planes width) (now (archive .entry)) slot) (now (words .entry)) .count)
+        × (now (words .exit) ≡ readOutcome (params kind dimension mode planes width) (length (now (archive .entry))) slot (slotOf (params kind dimension mode planes width) (now (archive .entry)) slot) (now (words .entry)) .words) ⌝ }
+{
+    slots::read(
+        slots::Params {
+            kind,
+            dimension,
+            mode,
+            planes,
+            width,
+        },
+        archive,
+        slot,
+        words,
+    )
+}
+
+// How many slots the archive has.
+#[no_mangle]
+pub extern "C" fn windlassow_slot_count(
+    kind: u32,
+    dimension: u32,
+    mode: u32,
+    planes: u32,
+    width: u32,
+    archive: &[u8],
+) -> slots::Reply
+    ensures { λ r. ⌜ (r .answer ≡ countOutcome (params kind dimension mode planes width) (length (now (archive .entry))) .answer)
+        × (r .count ≡ countOutcome (params kind dimension mode planes width) (length (now (archive .entry))) .count) ⌝ }
+{
+    slots::slot_count(
+        slots::Params {
+            kind,
+            dimension,
+            mode,
+            planes,
+            width,
+        },
+        archive,
+    )
+}
+
+// How many bits a block's code has, before padding.
+#[no_mangle]
+pub extern "C" fn windlassow_bit_count(
+    kind: u32,
+    dimension: u32,
+    mode: u32,
+    planes: u32,
+    width: u32,
+    words: &[u32],
+) -> slots::Reply
+    ensures { λ r. ⌜ (r .answer ≡ bitOutcome (params kind dimension mode planes width) (now (words .entry)) .answer)
+        × (r .count ≡ bitOutcome (params kind dimension mode planes width) (now (words .entry)) .count) ⌝ }
+{
+    slots::bit_count(
+        slots::Params {
+            kind,
+            dimension,
+            mode,
+            planes,
+            width,
+        },
+        words,
+    )
+}
+
+// The FPC writer.
+#[no_mangle]
+pub extern "C" fn windlassow_fpc_write(
+    f: &mut [u64],
+    d: &mut [u64],
+    doubles: &[u64],
+    out: &mut [u8],
+) -> fpc::Reply
+    ensures { λ r. ⌜ outcome r (now (out .exit)) (now (f .exit)) (now (d .exit)) ≡ writeOutcome (now (f .entry)) (now (d .entry)) (now (doubles .entry)) (now (out .entry)) ⌝ }
+{
+    fpc::fpc_write(f, d, doubles, out)
+}
+
+// The FPC reader.
+#[no_mangle]
+pub extern "C" fn windlassow_fpc_read(
+    f: &mut [u64],
+    d: &mut [u64],
+    stream: &[u8],
+    doubles: &mut [u64],
+) -> fpc::Reply
+    ensures { λ r. ⌜ outcome r (now (doubles .exit)) (now (f .exit)) (now (d .exit)) ≡ fpcReadOutcome (now (f .entry)) (now (d .entry)) (now (stream .entry)) (now (doubles .entry)) ⌝ }
+{
+    fpc::fpc_read(f, d, stream, doubles)
+}

@@ -1,0 +1,52 @@
+/* The six calls of windlassow.h, on cases of document 01. Compiles as C99 and as C++. */
+#include <stdio.h>
+#include <string.h>
+#include "windlassow.h"
+
+static void print(const char *call, struct windlassow_reply r) {
+    printf("%s: answer %u, count %u\n", call, (unsigned)r.answer, (unsigned)r.count);
+}
+
+static void bytes(const uint8_t *from, size_t len) {
+    for (size_t i = 0; i < len; i++) printf("%02x", from[i]);
+    printf("\n");
+}
+
+static void slots(void) {
+    uint8_t archive[13];
+    const uint32_t ones[4] = {1, 1, 1, 1}, wide[4] = {0xaaaaaaab, 0x55555556, 0xaaaaaaac, 0x55555558};
+    uint32_t back[4];
+    memset(archive, 0xff, sizeof archive);
+    print("slot_count", windlassow_slot_count(0, 1, 1, 32, 48, archive, sizeof archive));
+    print("bit_count", windlassow_bit_count(0, 1, 1, 32, 48, wide, 4));
+    print("store", windlassow_store(0, 1, 1, 32, 48, archive, sizeof archive, 1, ones, 4));
+    print("store", windlassow_store(0, 1, 1, 32, 48, archive, sizeof archive, 0, wide, 4));
+    bytes(archive, sizeof archive);
+    print("read", windlassow_read(0, 1, 1, 32, 48, archive, sizeof archive, 1, back, 4));
+    printf("%d %d %d %d\n", (int)back[0], (int)back[1], (int)back[2], (int)back[3]);
+    print("read", windlassow_read(0, 1, 1, 32, 48, archive, sizeof archive, 0, back, 4));
+    print("read", windlassow_read(0, 1, 1, 32, 48, archive, 0, 0, back, 4));
+}
+
+static void fpc(void) {
+    uint64_t f[16], d[16], back[2];
+    const uint64_t run[2] = {0x3ff0000000000000, 0x3ff0000000000000};
+    const uint8_t bad[3] = {0x66, 0, 0};
+    uint8_t out[17];
+    memset(f, 0xff, sizeof f);
+    memset(d, 0xff, sizeof d);
+    struct windlassow_reply wrote = windlassow_fpc_write(f, 16, d, 16, run, 2, out, sizeof out);
+    print("fpc_write", wrote);
+    bytes(out, wrote.count);
+    print("fpc_read", windlassow_fpc_read(f, 16, d, 16, out, wrote.count, back, 2));
+    printf("%d\n", memcmp(run, back, sizeof run) == 0);
+    print("fpc_read", windlassow_fpc_read(f, 16, d, 16, bad, sizeof bad, back, 2));
+    print("fpc_write", windlassow_fpc_write(f, 16, d, 16, run, 2, out, 8));
+    print("fpc_write", windlassow_fpc_write(f, 16, d, 8, run, 2, out, 8));
+}
+
+int main(void) {
+    slots();
+    fpc();
+    return 0;
+}

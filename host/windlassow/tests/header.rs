@@ -1,0 +1,58 @@
+//! The C header: a program in C, compiled against it and linked with the static library, as C and as C++.
+
+use std::path::{Path, PathBuf};
+use std::process::Command;
+
+const EXPECTED: &str = "\
+slot_count: answer 0, count 2
+bit_count: answer 0, count 136
+store: answer 0, count 39
+store: answer 10, count 136
+ffffffffffff1f0000003000ff
+read: answer 0, count 4
+1 1 1 1
+read: answer 11, count 0
+read: answer 7, count 0
+fpc_write: answer 0, count 9
+07000000000000f03f
+fpc_read: answer 0, count 2
+1
+fpc_read: answer 23, count 0
+fpc_write: answer 22, count 9
+fpc_write: answer 20, count 0
+";
+
+fn repository() -> PathBuf {
+    Path::new(env!("CARGO_MANIFEST_DIR")).ancestors().nth(2).unwrap().to_path_buf()
+}
+
+/// Compiles the example in a language, links and runs it, and compares what it prints.
+fn run_as(language: &str, standard: &str) {
+    let root = repository();
+    let program = Path::new(env!("CARGO_TARGET_TMPDIR")).join(format!("example-{language}"));
+    let compiled = Command::new("cc")
+        .args([standard, "-Wall", "-Wextra", "-Werror", "-pedantic", "-O2", "-x", language])
+        .arg(root.join("host/c/example.c"))
+        .args(["-x", "none"])
+        .arg(root.join("target/staticlib/libwindlassow.a"))
+        .arg("-I")
+        .arg(root.join("include"))
+        .arg("-o")
+        .arg(&program)
+        .output()
+        .expect("the C compiler 'cc' is on the PATH");
+    assert!(compiled.status.success(), "{}", String::from_utf8_lossy(&compiled.stderr));
+    let ran = Command::new(&program).output().unwrap();
+    assert!(ran.status.success(), "the example ended with {}", ran.status);
+    assert_eq!(String::from_utf8_lossy(&ran.stdout), EXPECTED);
+}
+
+#[test]
+fn the_example_in_c() {
+    run_as("c", "-std=c99");
+}
+
+#[test]
+fn the_example_in_cpp() {
+    run_as("c++", "-std=c++11");
+}

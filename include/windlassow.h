@@ -1,0 +1,125 @@
+/*
+ * Windlassow: blocks of readings in slots of equal width, and doubles in FPC streams.
+ * The calls of the static library libwindlassow.a (x86-64 Linux).
+ *
+ * Buffers
+ *   A buffer is lent as a pointer and a length in elements. The pointer must not be null, not even
+ *   with a length of 0, and must be aligned for its elements. A buffer without const must not
+ *   overlap another one of the same call, and no other thread may use it while the call runs.
+ *   The library keeps no pointer, has no state of its own and allocates nothing. Any numbers may
+ *   be passed and any bytes may stand in a buffer: what does not fit is refused by an answer number.
+ *
+ * Answers
+ *   If several refusals apply, the one of the lowest number is given, except that 23 comes before 22.
+ *
+ *    no.  meaning                                                              count
+ *     0   done                                                                 see each call
+ *     1   the kind is not 0 or 1                                               0
+ *     2   the dimension is not 1 or 2                                          0
+ *     3   the mode is not 0 or 1                                               0
+ *     4   planes is not from 1 to 32                                           0
+ *     5   width is neither 0 nor from 16 to 1,024                              0
+ *     6   the archive is longer than 65,536 bytes                              0
+ *     7   the archive has no slot of that number                               0
+ *     8   the buffer of words has not the length of a block                    0
+ *     9   lossy, floats: an infinity or a NaN is among the words               0
+ *    10   exact: the code of the block is longer than the slot                 bits it needs
+ *    11   exact: the slot holds no block's code followed by zeros              0
+ *    20   the FPC tables are not of one length, a power of two 16 to 1,024     0
+ *    21   more than 4,096 doubles to write, or 65,536 bytes to read            0
+ *    22   the output is longer than the room lent                              bytes or doubles it needs
+ *    23   the bytes are not the FPC stream, for tables of this length, of any
+ *         run of at most 4,096 doubles                                         0
+ *
+ *   Answers 1 to 11, 20 and 21 leave every buffer as it was.
+ *   Answers 22 and 23 leave the output as it was and both tables zero.
+ *
+ * Parameters of the slot calls
+ *   kind       0: two's complement integers of 32 bits; 1: IEEE 754 binary32 patterns
+ *   dimension  1: a block is 4 words; 2: a block is 16 words, four rows of four,
+ *              the value of column i and row j at place i + 4j
+ *   mode       0: lossy, the code is cut at the slot's end; 1: exact, the words come back bit for bit
+ *   planes     the number of bit planes kept, 1 to 32; exact mode takes no other notice of it
+ *   width      the bits W of a slot; 0 stands for 8 bits a word
+ *   An archive is read with the parameters that it was written with.
+ *
+ * Archives
+ *   Slot k starts at bit kW. Bit t of an archive is bit t mod 8 of byte t / 8, lowest first.
+ *   The slot count is 8 x length / W, rounded down. Every exact block of N words fits a slot of
+ *   33N + 4 bits (integers) or 33N + 14 bits (float patterns).
+ */
+#ifndef WINDLASSOW_H
+#define WINDLASSOW_H
+
+#include <stddef.h>
+#include <stdint.h>
+
+#ifdef __cplusplus
+extern "C" {
+#endif
+
+/* What every call returns: the answer number and its count. */
+struct windlassow_reply {
+    uint32_t answer;
+    uint32_t count;
+};
+
+/*
+ * Stores a block in a slot. Only that slot's bits change.
+ * Answers 0 to 10. Count when done: the bits of the block's code; the rest of the slot is zero.
+ */
+struct windlassow_reply windlassow_store(
+    uint32_t kind, uint32_t dimension, uint32_t mode, uint32_t planes, uint32_t width,
+    uint8_t *archive, size_t archive_len, size_t slot,
+    const uint32_t *words, size_t words_len);
+
+/*
+ * Reads a slot into the words.
+ * Answers 0 to 8 and 11. Count when done: the words of a block. A lossy read takes any slot.
+ */
+struct windlassow_reply windlassow_read(
+    uint32_t kind, uint32_t dimension, uint32_t mode, uint32_t planes, uint32_t width,
+    const uint8_t *archive, size_t archive_len, size_t slot,
+    uint32_t *words, size_t words_len);
+
+/*
+ * Counts the slots of an archive.
+ * Answers 0 to 6. Count when done: the number of slots.
+ */
+struct windlassow_reply windlassow_slot_count(
+    uint32_t kind, uint32_t dimension, uint32_t mode, uint32_t planes, uint32_t width,
+    const uint8_t *archive, size_t archive_len);
+
+/*
+ * Counts the bits of a block's code.
+ * Answers 0 to 5, 8 and 9. Count when done: the bits; exact mode takes no notice of a good width.
+ */
+struct windlassow_reply windlassow_bit_count(
+    uint32_t kind, uint32_t dimension, uint32_t mode, uint32_t planes, uint32_t width,
+    const uint32_t *words, size_t words_len);
+
+/*
+ * Writes the FPC stream of a run of doubles, given as 64-bit patterns.
+ * f and d are the two tables; what they hold before the call does not matter.
+ * Answers 0 and 20 to 22. Count when done: the bytes written; out past them is as it was,
+ * and the tables stand as after the last double.
+ * The stream of n doubles is never longer than 17 bytes for each begun pair.
+ */
+struct windlassow_reply windlassow_fpc_write(
+    uint64_t *f, size_t f_len, uint64_t *d, size_t d_len,
+    const uint64_t *doubles, size_t doubles_len, uint8_t *out, size_t out_len);
+
+/*
+ * Reads an FPC stream. The tables must have the length that they had when it was written.
+ * Answers 0 and 20 to 23. Count when done: the doubles read; the buffer past them is as it was,
+ * and the tables stand as after the last double.
+ */
+struct windlassow_reply windlassow_fpc_read(
+    uint64_t *f, size_t f_len, uint64_t *d, size_t d_len,
+    const uint8_t *stream, size_t stream_len, uint64_t *doubles, size_t doubles_len);
+
+#ifdef __cplusplus
+}
+#endif
+
+#endif
