@@ -1,0 +1,159 @@
+//! Blocks of every sort in slots of every sort.
+
+use crate::common::*;
+use crate::compare::*;
+use crate::make::*;
+use reference::{Params, transform};
+
+#[test]
+fn every_width_kind_dimension_and_mode() {
+    let mut random = Random::new(1);
+    let mut answers = Answers::none();
+    for width in all_widths() {
+        for (kind, dimension, mode) in all_kinds() {
+            for _ in 0..rounds(6) {
+                let p = Params { kind, dimension, mode, planes: any_planes(&mut random), width };
+                let slots = 1 + random.below(5);
+                let archive = archive_for(&mut random, &p, slots);
+                let maker = random.below(MAKERS);
+                let words = block(&mut random, maker, block_len(&p));
+                answers.count(compare_all(&p, &archive, random.below(slots), &words));
+            }
+        }
+    }
+    answers.must_include(&[0, 9, 10]);
+}
+
+#[test]
+fn every_way_of_making_blocks() {
+    let mut random = Random::new(2);
+    for (kind, dimension, mode) in all_kinds() {
+        for maker in 0..MAKERS {
+            for _ in 0..rounds(250) {
+                let width = random.pick(&[0, 16, 24, 40, 64, 97, 131, 136, 146, 200, 532, 542, 1024]);
+                let p = Params { kind, dimension, mode, planes: any_planes(&mut random), width };
+                let words = block(&mut random, maker, block_len(&p));
+                let archive = archive_for(&mut random, &p, 2);
+                compare_all(&p, &archive, 1, &words);
+            }
+        }
+    }
+}
+
+#[test]
+fn every_number_of_planes() {
+    let mut random = Random::new(3);
+    for planes in 1..=32 {
+        for (kind, dimension, mode) in all_kinds() {
+            for _ in 0..rounds(20) {
+                let width = 16 + random.below(600) as u32;
+                let p = Params { kind, dimension, mode, planes, width };
+                let maker = random.below(MAKERS);
+                let words = block(&mut random, maker, block_len(&p));
+                let archive = archive_for(&mut random, &p, 1);
+                compare_all(&p, &archive, 0, &words);
+            }
+        }
+    }
+}
+
+#[test]
+fn slots_at_every_bit_offset() {
+    let mut random = Random::new(4);
+    for (kind, dimension, mode) in all_kinds() {
+        for width in [17, 19, 33, 50, 71, 136, 137, 146, 147, 532, 533, 542, 543, 545] {
+            let p = Params { kind, dimension, mode, planes: 32, width };
+            let mut archive = random.bytes((9 * width as usize).div_ceil(8));
+            for slot in 0..9 {
+                for _ in 0..rounds(2) {
+                    let maker = random.below(MAKERS);
+                    let words = block(&mut random, maker, block_len(&p));
+                    compare_all(&p, &archive, slot, &words);
+                    (_, archive) = compare_store(&p, &archive, slot, &words);
+                }
+            }
+        }
+    }
+}
+
+#[test]
+fn the_largest_archive_and_its_last_slot() {
+    let mut random = Random::new(5);
+    for width in [16, 17, 31, 136, 1023, 1024] {
+        for (kind, dimension, mode) in all_kinds() {
+            let p = Params { kind, dimension, mode, planes: 32, width };
+            let archive = random.bytes(65_536);
+            let words = block(&mut random, 2, block_len(&p));
+            let last = 8 * archive.len() / width as usize - 1;
+            for slot in [0, 1, last / 2, last, last + 1] {
+                compare_all(&p, &archive, slot, &words);
+            }
+        }
+    }
+}
+
+/// One block at every budget: cuts at every place of the code, in tests, scans and verbatim bits.
+#[test]
+fn lossy_cuts_at_every_budget() {
+    let mut random = Random::new(12);
+    for kind in [INTEGERS, FLOATS] {
+        for dimension in [1, 2] {
+            for _ in 0..rounds(8) {
+                let maker = random.pick(&[3, 4, 5, 6, 7, 10, 12, 13]);
+                let p = Params { kind, dimension, mode: LOSSY, planes: any_planes(&mut random), width: 0 };
+                let words = block(&mut random, maker, block_len(&p));
+                for width in 16..=580 {
+                    compare_all(&Params { width, ..p }, &[0xFF; 73], 0, &words);
+                }
+            }
+        }
+    }
+}
+
+/// Every slot of 33N + 4 bits takes every exact integer block, of 33N + 14 every exact float block, and some
+/// integer block needs the 33N + 4.
+#[test]
+fn the_widths_that_take_every_exact_block() {
+    let mut random = Random::new(13);
+    for (kind, extra) in [(INTEGERS, 4), (FLOATS, 14)] {
+        for dimension in [1, 2] {
+            let n = 4u32.pow(dimension);
+            let p = Params { kind, dimension, mode: EXACT, planes: 32, width: 33 * n + extra };
+            for maker in 0..MAKERS {
+                for _ in 0..rounds(200) {
+                    let words = block(&mut random, maker, n as usize);
+                    assert_eq!(compare_all(&p, &[0xFF; 80], 0, &words).answer, 0);
+                }
+            }
+        }
+    }
+    for dimension in [1, 2] {
+        let n = 4u32.pow(dimension);
+        let longest = transform::from_coefficients(&vec![u32::MAX; n as usize], dimension, transform::sums);
+        let p = Params { kind: INTEGERS, dimension, mode: EXACT, planes: 32, width: 33 * n + 3 };
+        let refused = compare_all(&p, &[0; 80], 0, &longest);
+        assert_eq!((refused.answer, refused.count), (10, 33 * n + 4));
+    }
+}
+
+/// Exact integer codes of every number of planes, up to the longest.
+#[test]
+fn every_count_of_exact_planes() {
+    let mut random = Random::new(14);
+    for dimension in [1, 2] {
+        let n = 4usize.pow(dimension);
+        let p = Params { kind: INTEGERS, dimension, mode: EXACT, planes: 32, width: 600 };
+        for planes in 1..=32 {
+            let top = u32::MAX << (32 - planes);
+            for _ in 0..rounds(30) {
+                let coefficients: Vec<u32> = match random.below(3) {
+                    0 => vec![top; n],
+                    1 => (0..n).map(|_| random.word() & top).collect(),
+                    _ => (0..n).map(|_| random.word() >> random.below(32) & top).collect(),
+                };
+                let words = transform::from_coefficients(&coefficients, dimension, transform::sums);
+                compare_all(&p, &[0; 75], 0, &words);
+            }
+        }
+    }
+}

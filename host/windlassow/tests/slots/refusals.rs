@@ -1,0 +1,85 @@
+//! The refusals, in their order.
+
+use crate::common::*;
+use crate::compare::*;
+use crate::make::*;
+use reference::Params;
+
+const KINDS: [u32; 4] = [0, 1, 2, u32::MAX];
+const DIMENSIONS: [u32; 6] = [0, 1, 2, 3, 4, u32::MAX];
+const MODES: [u32; 4] = [0, 1, 2, u32::MAX];
+const PLANES: [u32; 6] = [0, 1, 20, 32, 33, u32::MAX];
+const WIDTHS: [u32; 14] = [0, 1, 8, 15, 16, 17, 64, 136, 1023, 1024, 1025, 8462, u32::MAX - 7, u32::MAX];
+const LENGTHS: [usize; 10] = [0, 1, 2, 3, 16, 17, 200, 65_535, 65_536, 65_537];
+const WORD_COUNTS: [usize; 9] = [0, 1, 3, 4, 5, 15, 16, 17, 64];
+
+/// Calls every slot call with any mixture of good and bad numbers and buffers.
+fn compare_refusals(random: &mut Random, p: &Params, archive: &[u8], answers: &mut Answers) {
+    let len = random.pick(&WORD_COUNTS);
+    let maker = random.below(MAKERS);
+    let words = if len == 4 || len == 16 { block(random, maker, len) } else { vec![0x7FC0_0000; len] };
+    let count = reference::slot_count(p, archive).count as usize;
+    let slot = random.pick(&[
+        0,
+        1,
+        count.wrapping_sub(1),
+        count,
+        count + 1,
+        u32::MAX as usize,
+        1 << 32,
+        usize::MAX / 8,
+        usize::MAX / 16 + 1,
+        usize::MAX - 1,
+        usize::MAX,
+    ]);
+    answers.count(compare_store(p, archive, slot, &words).0);
+    answers.count(compare_read(p, archive, slot, len).0);
+    compare_counts(p, archive, &words).into_iter().for_each(|reply| answers.count(reply));
+}
+
+#[test]
+fn refusals_in_their_order() {
+    let mut random = Random::new(15);
+    let mut answers = Answers::none();
+    let noise = random.bytes(65_537);
+    for _ in 0..rounds(60_000) {
+        // Mostly good numbers, so that the later rows are reached.
+        let often = random.pick(&[1, 3, 10, 1000]);
+        let mut number = |good: &[u32], any: &[u32]| {
+            if random.once_in(often) { random.pick(any) } else { random.pick(good) }
+        };
+        let p = Params {
+            kind: number(&[0, 1], &KINDS),
+            dimension: number(&[1, 2], &DIMENSIONS),
+            mode: number(&[0, 1], &MODES),
+            planes: number(&[1, 20, 32], &PLANES),
+            width: number(&[0, 16, 17, 64, 136, 1024], &WIDTHS),
+        };
+        // Long archives are few, since they take long to copy.
+        let lengths = if random.once_in(50) { &LENGTHS[..] } else { &LENGTHS[..7] };
+        let archive = &noise[..random.pick(lengths)];
+        compare_refusals(&mut random, &p, archive, &mut answers);
+    }
+    answers.must_include(&[0, 1, 2, 3, 4, 5, 6, 7, 8, 9, 10, 11]);
+}
+
+/// Every mixture of good and bad parameters, once with good buffers and once with bad ones.
+#[test]
+fn every_mixture_of_parameters() {
+    let mut random = Random::new(16);
+    let mut answers = Answers::none();
+    let noise = random.bytes(300);
+    for kind in KINDS {
+        for dimension in DIMENSIONS {
+            for mode in MODES {
+                for planes in PLANES {
+                    for width in WIDTHS {
+                        let p = Params { kind, dimension, mode, planes, width };
+                        compare_refusals(&mut random, &p, &noise, &mut answers);
+                    }
+                }
+            }
+        }
+    }
+    answers.must_include(&[0, 1, 2, 3, 4, 5, 7, 8]);
+}
