@@ -8,7 +8,7 @@ use lib.Seq.{sets}
 use Rattle.fpc.specs.declared.Reply.{Reply}
 use Rattle.predict.specs.declared.Step.the-variants.{Bad}
 use Rattle.predict.specs.Stream.{tableF, tableD}
-use Rattle.predict.specs.Reading.{numberOf}
+use Rattle.predict.specs.Reading.{answerOf}
 use Rattle.predict.specs.Outcome.{Outcome}
 
 -- both tables stand as after the last double of a run
@@ -19,7 +19,7 @@ pub record Stand (size : ℕ) (vs f d : List ℕ) : Type 0 where
 -- what a reading of bytes that give a run, or none, answers and leaves: 23 and a count of 0; or 0, how many doubles, the doubles and both tables.
 -- With 23 the tables and the output are as far as the reading came; the call above it clears the ones and lends no room in the other
 abbrev pub RanAs : ℕ → List ℕ → Option (List ℕ) → Reply → List ℕ → List ℕ → List ℕ → Type 0
-RanAs size out none r out′ f′ d′ = (r .answer ≡ numberOf Bad) × (r .count ≡ 0)
+RanAs size out none r out′ f′ d′ = (r .answer ≡ answerOf Bad) × (r .count ≡ 0)
 RanAs size out (some vs) r out′ f′ d′ = (r .answer ≡ 0) × (r .count ≡ length vs) × (out′ ≡ sets out 0 vs) × Stand size vs f′ d′
 
 -- an answer with both tables zeroed

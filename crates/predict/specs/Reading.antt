@@ -13,9 +13,9 @@ use Rattle.predict.specs.Predictors.{Predictors, start, fcm, dfcm, predi
 use Rattle.predict.specs.Stream.{bytesOf, halfByte, oddHalf, oddByte}
 
 -- document 01's number for each case of a step's answer: a double that was read is 0, and bytes that no double has are 23
-abbrev pub numberOf : Step → ℕ
-numberOf (Double v n) = 0
-numberOf Bad = 23
+abbrev pub answerOf : Step → ℕ
+answerOf (Double v n) = 0
+answerOf Bad = 23
 
 -- the double of a half byte and the bytes after it: their xor with the prediction of the half byte's side
 unfoldable pub decoded : ℕ → ℕ → ℕ → List ℕ → ℕ

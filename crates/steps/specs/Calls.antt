@@ -12,7 +12,7 @@ use Rattle.predict.specs.declared.Step.{Step}
 use Rattle.predict.specs.Predictors.{Predictors, Tables, fcm, dfcm, update}
 use Rattle.predict.specs.Bytes.{lowBytes}
 use Rattle.predict.specs.Stream.{half, residual, bytesOf}
-use Rattle.predict.specs.Reading.{numberOf, coded, stepOf, placed}
+use Rattle.predict.specs.Reading.{answerOf, coded, stepOf, placed}
 
 -- two tables of one size, and both hashes are places in them
 pub record Within (f d : List ℕ) (p : Place) : Type 0 where
@@ -46,4 +46,4 @@ pub record Appended (out : List ℕ) (at : ℕ) (numbers : List ℕ) (next : ℕ
 -- a step's answer at a place, where the bytes are those from that place on: the double and the next place, or bad; and document 01's number of it
 pub record Stepped (s : Predictors) (half : ℕ) (bytes : List ℕ) (at : ℕ) (r : Step) : Type 0 where
   pub step : r ≡ placed at (stepOf (fcm s) (dfcm s) half bytes)
-  pub number : numberOf r ≡ cond (coded (fcm s) (dfcm s) half bytes) 0 23
+  pub number : answerOf r ≡ cond (coded (fcm s) (dfcm s) half bytes) 0 23
