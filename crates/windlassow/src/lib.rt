@@ -7,6 +7,19 @@ ghost use Rattle.predict.specs.Outcome.{writeOutcome, readOutcome as fpcReadOut
 ghost use Rattle.fpc.specs.Calls.{outcome};
 ghost use Rattle.windlassow.specs.Plain.{params};
 
+// The record of the parameters.
+fn params_of(kind: u32, dimension: u32, mode: u32, planes: u32, width: u32) -> slots::Params
+    ensures { λ r. ⌜ r ≡ params kind dimension mode planes width ⌝ }
+{
+    slots::Params {
+        kind,
+        dimension,
+        mode,
+        planes,
+        width,
+    }
+}
+
 // The block goes into the slot.
 #[no_mangle]
 pub extern "C" fn windlassow_store(
@@ -23,18 +36,8 @@ pub extern "C" fn windlassow_store(
         × (r .count ≡ storeOutcome (params kind dimension mode planes width) (now (archive .entry)) slot (now (words .entry)) .count)
         × (bitsOf (now (archive .exit)) ≡ storeOutcome (params kind dimension mode planes width) (now (archive .entry)) slot (now (words .entry)) .bits) ⌝ }
 {
-    slots::store(
-        slots::Params {
-            kind,
-            dimension,
-            mode,
-            planes,
-            width,
-        },
-        archive,
-        slot,
-        words,
-    )
+    let p = params_of(kind, dimension, mode, planes, width);
+    slots::store(p, archive, slot, words)
 }
 
 // The slot's words go into the buffer.
@@ -53,18 +56,8 @@ pub extern "C" fn windlassow_read(
         × (r .count ≡ readOutcome (params kind dimension mode planes width) (length (now (archive .entry))) slot (slotOf (params kind dimension mode planes width) (now (archive .entry)) slot) (now (words .entry)) .count)
         × (now (words .exit) ≡ readOutcome (params kind dimension mode planes width) (length (now (archive .entry))) slot (slotOf (params kind dimension mode planes width) (now (archive .entry)) slot) (now (words .entry)) .words) ⌝ }
 {
-    slots::read(
-        slots::Params {
-            kind,
-            dimension,
-            mode,
-            planes,
-            width,
-        },
-        archive,
-        slot,
-        words,
-    )
+    let p = params_of(kind, dimension, mode, planes, width);
+    slots::read(p, archive, slot, words)
 }
 
 // How many slots the archive has.
@@ -80,16 +73,8 @@ pub extern "C" fn windlassow_slot_count(
     ensures { λ r. ⌜ (r .answer ≡ countOutcome (params kind dimension mode planes width) (length (now (archive .entry))) .answer)
         × (r .count ≡ countOutcome (params kind dimension mode planes width) (length (now (archive .entry))) .count) ⌝ }
 {
-    slots::slot_count(
-        slots::Params {
-            kind,
-            dimension,
-            mode,
-            planes,
-            width,
-        },
-        archive,
-    )
+    let p = params_of(kind, dimension, mode, planes, width);
+    slots::slot_count(p, archive)
 }
 
 // How many bits a block's code has, before padding.
@@ -105,16 +90,8 @@ pub extern "C" fn windlassow_bit_count(
     ensures { λ r. ⌜ (r .answer ≡ bitOutcome (params kind dimension mode planes width) (now (words .entry)) .answer)
         × (r .count ≡ bitOutcome (params kind dimension mode planes width) (now (words .entry)) .count) ⌝ }
 {
-    slots::bit_count(
-        slots::Params {
-            kind,
-            dimension,
-            mode,
-            planes,
-            width,
-        },
-        words,
-    )
+    let p = params_of(kind, dimension, mode, planes, width);
+    slots::bit_count(p, words)
 }
 
 // The FPC writer.

@@ -17,7 +17,9 @@ row-requires : tie.Need-row-requires
 row-requires c κs = search needs
 
 returns-2 : tie.Need-returns-2
-returns-2 c = c .row .ensures ∙ sym (first-zero (parameterRows (c .before .before .before .args .p)) (row6 (c .before .before .before .args .size) ∷ []) refl (sym (c .before .before .parameter-row .ensures) ∙ c .before .if1 .left))
+returns-2 c =
+    let s = c .before .before .before .args in
+    rw (c .row .ensures) (sym (first-zero (parameterRows (s .p)) (row6 (s .size) ∷ []) refl (sym (c .before .before .parameter-row .ensures) ∙ c .before .if1 .left)))
 
 pub count-row-spec : {M : Type 1} → statement M
 count-row-spec = tie.close (tie.spec parameter-row-requires returns row-requires returns-2)
