@@ -2,9 +2,10 @@
 use crate::transform::read_four;
 use crate::transform::write_four;
 ghost use mathlib.Core.Path.{_≡_};
+ghost use Prim.Native.Nat.{_^_, _<_};
 ghost use lib.ListN.{length};
 ghost use Rattle.blocks.specs.Four.{writing, reading};
-ghost use Rattle.blocks.specs.Axes.{forward, backward};
+ghost use Rattle.blocks.specs.Axes.{along, forward, backward};
 ghost use Rattle.blocks.specs.Square.{flat, eachRow, transposed};
 
 fn write_rows(b: [[u32; 4]; 4], exact: bool) -> [[u32; 4]; 4]
@@ -40,18 +41,41 @@ fn transpose(b: [[u32; 4]; 4]) -> [[u32; 4]; 4]
     ]
 }
 
+// The lines along axis a: the rows along axis 0, the columns along axis 1.
+fn write_along(b: [[u32; 4]; 4], a: u32, exact: bool) -> [[u32; 4]; 4]
+    requires { ⌜ a < 2 ⌝ }
+    ensures { λ r. ⌜ flat r ≡ along (writing 32 exact) (4 ^ a) (flat b) ⌝ }
+{
+    if a == 0 {
+        write_rows(b, exact)
+    } else {
+        transpose(write_rows(transpose(b), exact))
+    }
+}
+
+fn read_along(b: [[u32; 4]; 4], a: u32, exact: bool) -> [[u32; 4]; 4]
+    requires { ⌜ a < 2 ⌝ }
+    ensures { λ r. ⌜ flat r ≡ along (reading 32 exact) (4 ^ a) (flat b) ⌝ }
+{
+    if a == 0 {
+        read_rows(b, exact)
+    } else {
+        transpose(read_rows(transpose(b), exact))
+    }
+}
+
 // The rows, then the columns.
 pub fn write_square(b: [[u32; 4]; 4], exact: bool) -> [[u32; 4]; 4]
     ensures { λ r. ⌜ flat r ≡ forward 32 exact 2 (flat b) ⌝ }
 {
-    transpose(write_rows(transpose(write_rows(b, exact)), exact))
+    write_along(write_along(b, 0, exact), 1, exact)
 }
 
 // The columns, then the rows.
 pub fn read_square(b: [[u32; 4]; 4], exact: bool) -> [[u32; 4]; 4]
     ensures { λ r. ⌜ flat r ≡ backward 32 exact 2 (flat b) ⌝ }
 {
-    read_rows(transpose(read_rows(transpose(b), exact)), exact)
+    read_along(read_along(b, 1, exact), 0, exact)
 }
 
 // Sixteen words as four rows.

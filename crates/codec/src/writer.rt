@@ -147,7 +147,7 @@ fn put_exact_floats(
         let next = bits::put(buf, out, limit, false);
         return Coded { out: next };
     }
-    let e = floats::largest_field(words) + 1;
+    let e = floats::block_exponent(words);
     let first = bits::put(buf, out, limit, true);
     if floats::all_whole(e, words) {
         let second = bits::put(buf, first, limit, false);
@@ -176,7 +176,7 @@ fn put_lossy_floats(
         let next = bits::put(buf, out, limit, false);
         return Coded { out: next };
     }
-    let e = floats::largest_field(words) + 1;
+    let e = floats::block_exponent(words);
     let first = bits::put(buf, out, limit, true);
     put_scaled(false, d, p, e, words, scratch, buf, first, limit)
 }

@@ -7,7 +7,7 @@ ghost use lib.Ieee.{binary32};
 ghost use lib.Ieee.Nearest.{closest};
 ghost use Rattle.floats.specs.Pattern.{exponentField, minusZero, digits, place};
 ghost use Rattle.floats.specs.Integer.{scaled, toInteger, toPattern, whole};
-ghost use Rattle.floats.specs.Block.{largestField, anySpecial, noMagnitude, allZero, allWhole};
+ghost use Rattle.floats.specs.Block.{largestField, blockExponent, anySpecial, noMagnitude, allZero, allWhole};
 
 pub fn exponent_field(w: u32) -> u32
     ensures { λ r. ⌜ r ≡ exponentField binary32 w ⌝ }
@@ -22,7 +22,7 @@ fn larger(a: u32, b: u32) -> u32
 }
 
 // The largest exponent field, 0 of an empty slice.
-pub fn largest_field(ws: &[u32]) -> u32
+fn largest_field(ws: &[u32]) -> u32
     ensures { λ r. ⌜ r ≡ largestField binary32 (now (ws .entry)) ⌝ }
 {
     let mut found: u32 = 0;
@@ -32,6 +32,13 @@ pub fn largest_field(ws: &[u32]) -> u32
         i += 1;
     }
     found
+}
+
+// Document 01's e.
+pub fn block_exponent(ws: &[u32]) -> u32
+    ensures { λ r. ⌜ r ≡ blockExponent binary32 (now (ws .entry)) ⌝ }
+{
+    largest_field(ws) + 1
 }
 
 // Whether every word is zero.

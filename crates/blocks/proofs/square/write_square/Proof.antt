@@ -1,33 +1,20 @@
--- `blocks::square::write_square` meets its contract: rows, transposition, rows, transposition are the two axes in their order.
+-- `blocks::square::write_square` meets its contract: rows, then columns.
 use borrow.Author.Needs.{needs}
-use Rattle.blocks.specs.Four.{writing}
-use Rattle.blocks.proofs.Squares.{rows-columns}
+use Rattle.blocks.specs.Square.{flat}
+use Rattle.blocks.proofs.Squares.{rows-then-columns}
 use Rattle.blocks.proofs.square.write_square.Statement.{statement}
 use Rattle.blocks.proofs.square.write_square.Tie as tie
 
-write-rows-requires : tie.Need-write-rows-requires
-write-rows-requires c κs = search needs
+write-along-requires : tie.Need-write-along-requires
+write-along-requires c κs = search needs
 
-transpose-requires : tie.Need-transpose-requires
-transpose-requires c κs = search needs
-
-write-rows-requires-2 : tie.Need-write-rows-requires-2
-write-rows-requires-2 c κs = search needs
-
-transpose-requires-2 : tie.Need-transpose-requires-2
-transpose-requires-2 c κs = search needs
+write-along-requires-2 : tie.Need-write-along-requires-2
+write-along-requires-2 c κs = search needs
 
 returns : tie.Need-returns
 returns c =
-    let args = c .before .before .before .before .args in
-    cc (rows-columns (writing 32 (args .exact)) (args .b))
+    let s = c .before .before .args in
+    rows-then-columns 32 (s .exact) (flat (s .b)) (flat (c .before .write-along .result)) (c .before .write-along .ensures) (c .write-along2 .ensures)
 
 pub write-square-spec : {M : Type 1} → statement M
-write-square-spec =
-    tie.close
-    (tie.spec
-    write-rows-requires
-    transpose-requires
-    write-rows-requires-2
-    transpose-requires-2
-    returns)
+write-square-spec = tie.close (tie.spec write-along-requires write-along-requires-2 returns)

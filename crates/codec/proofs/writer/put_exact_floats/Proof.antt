@@ -1,12 +1,9 @@
 -- By the block's case: its first bits, then its integers. Assumes nothing.
 use Rattle.codec.proofs.Writing.{exact-zero, exact-whole, exact-raw, ready-whole}
-use Rattle.floats.proofs.Blocks.{largest-le}
-use Rattle.floats.specs.Block.{blockExponent}
 use Rattle.bits.proofs.WriteLaws.{written-append}
 use lib.Ieee.{binary32}
 use native.Mathlib.Omega.{arith}
-use Prim.Native.Nat.{ℕ, _+_}
-use mathlib.Core.Path.{_≡_, sym, ap, _∙_}
+use mathlib.Core.Path.{sym, _∙_}
 use borrow.Author.Needs.{needs}
 use Rattle.codec.proofs.writer.put_exact_floats.Statement.{statement}
 use Rattle.codec.proofs.writer.put_exact_floats.Tie as tie
@@ -25,11 +22,8 @@ returns c =
     let s = c .before .before .before .before .before .before .before .before .before in
     rw (exact-zero binary32 (s .args .d) (s .args .p) (s .args .words .now) (sym (c .before .before .before .before .before .all-zero .ensures) ∙ c .before .before .before .before .if1 .taken)) (c .before .before .put .ensures)
 
-largest-field-requires : tie.Need-largest-field-requires
-largest-field-requires c κs = search needs
-
-add-e : tie.Need-add-e
-add-e c = omega (arith, c .largest-field .ensures, largest-le binary32 (c .before .before .before .before .before .before .args .words .now))
+block-exponent-requires : tie.Need-block-exponent-requires
+block-exponent-requires c κs = search needs
 
 put-requires-2 : tie.Need-put-requires-2
 put-requires-2 c κs = search needs
@@ -44,8 +38,7 @@ put-scaled-requires : tie.Need-put-scaled-requires
 put-scaled-requires c κs =
     let s = c .before .before .before .before .before .before .before .before .before .before .before .before .before .before .before .before .before .before in
     let ws = s .args .words .now in
-    let own : c .before .before .before .before .before .before .before .before .before .before .before .before .largest-field .result + 1 ≡ blockExponent binary32 ws = ap (λ (n : ℕ). n + 1) (c .before .before .before .before .before .before .before .before .before .before .before .before .largest-field .ensures) in
-    (search needs, search needs, search needs, search needs, search needs, ready-whole binary32 (s .args .d) (s .args .p) ws _ own (sym (c .before .before .before .before .before .before .before .all-whole .ensures) ∙ c .before .before .before .before .before .before .if2 .taken), search needs, omega (arith, c .before .before .before .before .put3 .ensures .moved, c .before .before .before .before .before .before .before .before .before .before .put2 .ensures .moved))
+    (search needs, search needs, search needs, search needs, search needs, ready-whole binary32 (s .args .d) (s .args .p) ws _ (c .before .before .before .before .before .before .before .before .before .before .before .before .block-exponent .ensures) (sym (c .before .before .before .before .before .before .before .all-whole .ensures) ∙ c .before .before .before .before .before .before .if2 .taken), search needs, omega (arith, c .before .before .before .before .put3 .ensures .moved, c .before .before .before .before .before .before .before .before .before .before .put2 .ensures .moved))
 
 put-requires-4 : tie.Need-put-requires-4
 put-requires-4 c κs = search needs
@@ -63,8 +56,7 @@ returns-2 : tie.Need-returns-2
 returns-2 c =
     let s = c .before .before .before .before .before .before .before .before .before .before .before .before .before .before .before .before .before .before .before .before .before .before .before in
     let ws = s .args .words .now in
-    let own : c .before .before .before .before .before .before .before .before .before .before .before .before .before .before .before .before .before .largest-field .result + 1 ≡ blockExponent binary32 ws = ap (λ (n : ℕ). n + 1) (c .before .before .before .before .before .before .before .before .before .before .before .before .before .before .before .before .before .largest-field .ensures) in
-    rw (exact-whole binary32 (s .args .d) (s .args .p) ws _ own (sym (c .before .before .before .before .before .before .before .before .before .before .before .before .before .before .before .before .before .before .before .all-zero .ensures) ∙ c .before .before .before .before .before .before .before .before .before .before .before .before .before .before .before .before .before .before .if1 .left) (sym (c .before .before .before .before .before .before .before .before .before .before .before .before .all-whole .ensures) ∙ c .before .before .before .before .before .before .before .before .before .before .before .if2 .taken))
+    rw (exact-whole binary32 (s .args .d) (s .args .p) ws _ (c .before .before .before .before .before .before .before .before .before .before .before .before .before .before .before .before .before .block-exponent .ensures) (sym (c .before .before .before .before .before .before .before .before .before .before .before .before .before .before .before .before .before .before .before .all-zero .ensures) ∙ c .before .before .before .before .before .before .before .before .before .before .before .before .before .before .before .before .before .before .if1 .left) (sym (c .before .before .before .before .before .before .before .before .before .before .before .before .all-whole .ensures) ∙ c .before .before .before .before .before .before .before .before .before .before .before .if2 .taken))
     (written-append (c .before .before .before .before .before .before .before .before .before .before .before .before .before .before .before .put2 .ensures) (written-append (c .before .before .before .before .before .before .before .before .before .put3 .ensures) (c .before .before .before .before .put-scaled .ensures)))
 
 same-length-4 : tie.Need-same-length-4
@@ -77,8 +69,7 @@ returns-3 : tie.Need-returns-3
 returns-3 c =
     let s = c .before .before .before .before .before .before .before .before .before .before .before .before .before .before .before .before .before .before .before .before .before .before .before in
     let ws = s .args .words .now in
-    let own : c .before .before .before .before .before .before .before .before .before .before .before .before .before .before .before .before .before .largest-field .result + 1 ≡ blockExponent binary32 ws = ap (λ (n : ℕ). n + 1) (c .before .before .before .before .before .before .before .before .before .before .before .before .before .before .before .before .before .largest-field .ensures) in
-    rw (exact-raw binary32 (s .args .d) (s .args .p) ws _ own (sym (c .before .before .before .before .before .before .before .before .before .before .before .before .before .before .before .before .before .before .before .all-zero .ensures) ∙ c .before .before .before .before .before .before .before .before .before .before .before .before .before .before .before .before .before .before .if1 .left) (sym (c .before .before .before .before .before .before .before .before .before .before .before .before .all-whole .ensures) ∙ c .before .before .before .before .before .before .before .before .before .before .before .if2 .left))
+    rw (exact-raw binary32 (s .args .d) (s .args .p) ws _ (c .before .before .before .before .before .before .before .before .before .before .before .before .before .before .before .before .before .block-exponent .ensures) (sym (c .before .before .before .before .before .before .before .before .before .before .before .before .before .before .before .before .before .before .before .all-zero .ensures) ∙ c .before .before .before .before .before .before .before .before .before .before .before .before .before .before .before .before .before .before .if1 .left) (sym (c .before .before .before .before .before .before .before .before .before .before .before .before .all-whole .ensures) ∙ c .before .before .before .before .before .before .before .before .before .before .before .if2 .left))
     (written-append (c .before .before .before .before .before .before .before .before .before .before .before .before .before .before .before .put2 .ensures) (written-append (c .before .before .before .before .before .before .before .before .before .put4 .ensures) (c .before .before .before .before .put-flipped .ensures)))
 
 pub put-exact-floats-spec : {M : Type 1} → statement M
@@ -89,8 +80,7 @@ put-exact-floats-spec =
     put-requires
     same-length
     returns
-    largest-field-requires
-    add-e
+    block-exponent-requires
     put-requires-2
     all-whole-requires
     put-requires-3

@@ -1,12 +1,9 @@
 -- By the block's case: its first bit, then e and its integers. Assumes nothing.
 use Rattle.codec.proofs.Writing.{lossy-zero, lossy-some, ready-finite}
-use Rattle.floats.proofs.Blocks.{largest-le}
-use Rattle.floats.specs.Block.{blockExponent}
 use Rattle.bits.proofs.WriteLaws.{written-append}
 use lib.Ieee.{binary32}
 use native.Mathlib.Omega.{arith}
-use Prim.Native.Nat.{ℕ, _+_}
-use mathlib.Core.Path.{_≡_, sym, ap, _∙_}
+use mathlib.Core.Path.{sym, _∙_}
 use borrow.Author.Needs.{needs}
 use Rattle.codec.proofs.writer.put_lossy_floats.Statement.{statement}
 use Rattle.codec.proofs.writer.put_lossy_floats.Tie as tie
@@ -25,11 +22,8 @@ returns c =
     let s = c .before .before .before .before .before .before .before .before .before in
     rw (lossy-zero binary32 (s .args .d) (s .args .p) (s .args .words .now) (sym (c .before .before .before .before .before .no-magnitude .ensures) ∙ c .before .before .before .before .if1 .taken)) (c .before .before .put .ensures)
 
-largest-field-requires : tie.Need-largest-field-requires
-largest-field-requires c κs = search needs
-
-add-e : tie.Need-add-e
-add-e c = omega (arith, c .largest-field .ensures, largest-le binary32 (c .before .before .before .before .before .before .args .words .now))
+block-exponent-requires : tie.Need-block-exponent-requires
+block-exponent-requires c κs = search needs
 
 put-requires-2 : tie.Need-put-requires-2
 put-requires-2 c κs = search needs
@@ -38,8 +32,7 @@ put-scaled-requires : tie.Need-put-scaled-requires
 put-scaled-requires c κs =
     let s = c .before .before .before .before .before .before .before .before .before .before .before .before in
     let ws = s .args .words .now in
-    let own : c .before .before .before .before .before .before .largest-field .result + 1 ≡ blockExponent binary32 ws = ap (λ (n : ℕ). n + 1) (c .before .before .before .before .before .before .largest-field .ensures) in
-    (search needs, search needs, search needs, search needs, search needs, ready-finite binary32 (s .args .d) (s .args .p) ws _ own (s .pre .5), search needs, omega (arith, c .before .before .before .before .put2 .ensures .moved))
+    (search needs, search needs, search needs, search needs, search needs, ready-finite binary32 (s .args .d) (s .args .p) ws _ (c .before .before .before .before .before .before .block-exponent .ensures) (s .pre .5), search needs, omega (arith, c .before .before .before .before .put2 .ensures .moved))
 
 same-length-2 : tie.Need-same-length-2
 same-length-2 c = search needs
@@ -51,8 +44,7 @@ returns-2 : tie.Need-returns-2
 returns-2 c =
     let s = c .before .before .before .before .before .before .before .before .before .before .before .before .before .before .before .before .before in
     let ws = s .args .words .now in
-    let own : c .before .before .before .before .before .before .before .before .before .before .before .largest-field .result + 1 ≡ blockExponent binary32 ws = ap (λ (n : ℕ). n + 1) (c .before .before .before .before .before .before .before .before .before .before .before .largest-field .ensures) in
-    rw (lossy-some binary32 (s .args .d) (s .args .p) ws _ own (sym (c .before .before .before .before .before .before .before .before .before .before .before .before .before .no-magnitude .ensures) ∙ c .before .before .before .before .before .before .before .before .before .before .before .before .if1 .left))
+    rw (lossy-some binary32 (s .args .d) (s .args .p) ws _ (c .before .before .before .before .before .before .before .before .before .before .before .block-exponent .ensures) (sym (c .before .before .before .before .before .before .before .before .before .before .before .before .before .no-magnitude .ensures) ∙ c .before .before .before .before .before .before .before .before .before .before .before .before .if1 .left))
     (written-append (c .before .before .before .before .before .before .before .before .before .put2 .ensures) (c .before .before .before .before .put-scaled .ensures))
 
 pub put-lossy-floats-spec : {M : Type 1} → statement M
@@ -63,8 +55,7 @@ put-lossy-floats-spec =
     put-requires
     same-length
     returns
-    largest-field-requires
-    add-e
+    block-exponent-requires
     put-requires-2
     put-scaled-requires
     same-length-2
