@@ -6,8 +6,9 @@ use native.Mathlib.Omega.{arith}
 use borrow.Author.Count.{below-more}
 use lib.ListN.{length, getD, set, length-map}
 use lib.Seq.{ext-getD, getD-set-same, getD-set-other}
+use Rattle.blocks.specs.Axes.{tabulate}
 use Rattle.blocks.specs.Order.{entryOf, reorder, restore}
-use Rattle.blocks.proofs.Lists.{getD-tabulate, getD-map-in}
+use Rattle.blocks.proofs.Lists.{length-tabulate, getD-tabulate, getD-map-in}
 use Rattle.blocks.proofs.Tables.{Permutation, found, only, length-reorder, length-restore}
 
 -- after k rounds, of which round i put val i at the place at i
@@ -21,6 +22,11 @@ pub fill-more : (at val : ℕ → ℕ) (out : List ℕ) (k p v : ℕ) → p ≡ 
 fill-more at val out k p v ep ev inside apart done =
     below-more _ k (λ i h. getD-set-other out p (at i) v 0 (apart i h) ∙ done i h)
     (ap (λ (x : ℕ). getD (set out p v) x 0) (sym ep) ∙ getD-set-same out p v 0 inside ∙ ev)
+
+-- all rounds, each at its own place
+pub tabulated : (f : ℕ → ℕ) (n : ℕ) (out : List ℕ) → length out ≡ n → Filled (λ i. i) f out n → out ≡ tabulate n f
+tabulated f n out long done =
+    ext-getD 0 out (tabulate n f) (long ∙ sym (length-tabulate n f)) (λ i h. done i (omega arith) ∙ sym (getD-tabulate n f i 0 (omega arith)))
 
 -- two entries at different numbers differ
 pub entries-apart : (n : ℕ) (t : List ℕ) → Permutation n t → (i k : ℕ) → i < k → k < n → getD t i 0 ≡ getD t k 0 → ⊥

@@ -12,5 +12,8 @@ flat rows = tabulate (4 * 4) (λ p. getD (getD rows (p / 4) []) (p % 4) 0)
 abbrev pub eachRow : Transform → List (List ℕ) → List (List ℕ)
 eachRow t rows = tabulate 4 (λ j. onFour t (getD rows j []))
 
+abbrev pub columnOf : List (List ℕ) → ℕ → List ℕ
+columnOf rows i = tabulate 4 (λ j. getD (getD rows j []) i 0)
+
 abbrev pub transposed : List (List ℕ) → List (List ℕ)
-transposed rows = tabulate 4 (λ i. tabulate 4 (λ j. getD (getD rows j []) i 0))
+transposed rows = tabulate 4 (columnOf rows)

@@ -6,7 +6,7 @@ ghost use Prim.Native.Nat.{_^_, _<_};
 ghost use lib.ListN.{length};
 ghost use Rattle.blocks.specs.Four.{writing, reading};
 ghost use Rattle.blocks.specs.Axes.{along, forward, backward};
-ghost use Rattle.blocks.specs.Square.{flat, eachRow, transposed};
+ghost use Rattle.blocks.specs.Square.{flat, eachRow, columnOf, transposed};
 
 fn write_rows(b: [[u32; 4]; 4], exact: bool) -> [[u32; 4]; 4]
     ensures { λ r. ⌜ r ≡ eachRow (writing 32 exact) b ⌝ }
@@ -30,15 +30,18 @@ fn read_rows(b: [[u32; 4]; 4], exact: bool) -> [[u32; 4]; 4]
     ]
 }
 
+// Column i.
+fn column(b: [[u32; 4]; 4], i: usize) -> [u32; 4]
+    requires { ⌜ i < 4 ⌝ }
+    ensures { λ r. ⌜ r ≡ columnOf b i ⌝ }
+{
+    [b[0][i], b[1][i], b[2][i], b[3][i]]
+}
+
 fn transpose(b: [[u32; 4]; 4]) -> [[u32; 4]; 4]
     ensures { λ r. ⌜ r ≡ transposed b ⌝ }
 {
-    [
-        [b[0][0], b[1][0], b[2][0], b[3][0]],
-        [b[0][1], b[1][1], b[2][1], b[3][1]],
-        [b[0][2], b[1][2], b[2][2], b[3][2]],
-        [b[0][3], b[1][3], b[2][3], b[3][3]],
-    ]
+    [column(b, 0), column(b, 1), column(b, 2), column(b, 3)]
 }
 
 // The lines along axis a: the rows along axis 0, the columns along axis 1.
@@ -95,22 +98,11 @@ pub fn square_of(words: &[u32]) -> [[u32; 4]; 4]
 pub fn flat_of(b: [[u32; 4]; 4]) -> [u32; 16]
     ensures { λ r. ⌜ r ≡ flat b ⌝ }
 {
-    [
-        b[0][0],
-        b[0][1],
-        b[0][2],
-        b[0][3],
-        b[1][0],
-        b[1][1],
-        b[1][2],
-        b[1][3],
-        b[2][0],
-        b[2][1],
-        b[2][2],
-        b[2][3],
-        b[3][0],
-        b[3][1],
-        b[3][2],
-        b[3][3],
-    ]
+    let mut out = [0u32; 16];
+    let mut p = 0;
+    while p < 16 {
+        out[p] = b[p / 4][p % 4];
+        p += 1;
+    }
+    out
 }

@@ -47,7 +47,8 @@ returns : tie.Need-returns
 returns c =
     let t = c .before .before .before .before in
     let s = t .before .before .before .before .before .before in
-    cc (coefficients-line 32 (s .args .exact) (s .args .words .now) (s .pre) (t .write-four .result) (t .write-four .ensures))
+    rw (c .nega4 .ensures, c .before .nega3 .ensures, c .before .before .nega2 .ensures, c .before .before .before .nega .ensures)
+    (coefficients-line 32 (s .args .exact) (s .args .words .now) (s .pre) (t .write-four .result) (t .write-four .ensures))
 
 pub coefficients4-spec : {M : Type 1} → statement M
 coefficients4-spec =

@@ -28,7 +28,7 @@ read-four-requires-4 : tie.Need-read-four-requires-4
 read-four-requires-4 c κs = search needs
 
 returns : tie.Need-returns
-returns c = cc
+returns c = rw (c .read-four4 .ensures, c .before .before .read-four3 .ensures, c .before .before .before .before .read-four2 .ensures, c .before .before .before .before .before .before .read-four .ensures)
 
 pub read-rows-spec : {M : Type 1} → statement M
 read-rows-spec =

@@ -28,7 +28,7 @@ write-four-requires-4 : tie.Need-write-four-requires-4
 write-four-requires-4 c κs = search needs
 
 returns : tie.Need-returns
-returns c = cc
+returns c = rw (c .write-four4 .ensures, c .before .before .write-four3 .ensures, c .before .before .before .before .write-four2 .ensures, c .before .before .before .before .before .before .write-four .ensures)
 
 pub write-rows-spec : {M : Type 1} → statement M
 write-rows-spec =

@@ -45,7 +45,15 @@ array-read-t11 c = search needs
 
 returns : tie.Need-returns
 unfolding differ
-returns c = cc
+returns c =
+    rw (
+      c .minus6 .ensures,
+      c .before .minus5 .ensures,
+      c .before .before .minus4 .ensures,
+      c .before .before .before .minus3 .ensures,
+      c .before .before .before .before .minus2 .ensures,
+      c .before .before .before .before .before .minus .ensures,
+    )
 
 pub differ-spec : {M : Type 1} → statement M
 differ-spec =

@@ -45,7 +45,15 @@ array-read-t11 c = search needs
 
 returns : tie.Need-returns
 unfolding undiffer
-returns c = cc
+returns c =
+    rw (
+      c .plus6 .ensures,
+      c .before .plus5 .ensures,
+      c .before .before .plus4 .ensures,
+      c .before .before .before .plus3 .ensures,
+      c .before .before .before .before .plus2 .ensures,
+      c .before .before .before .before .before .plus .ensures,
+    )
 
 pub undiffer-spec : {M : Type 1} → statement M
 undiffer-spec =

@@ -60,7 +60,23 @@ twice-less-requires-4 c κs = search needs
 
 returns : tie.Need-returns
 unfolding unlift
-returns c = cc
+returns c =
+    let c₁ = c .before .before .before .before in
+    let c₂ = c₁ .before .before .before .before in
+    rw (
+      c .twice-less4 .ensures,
+      c .before .plus5 .ensures,
+      c .before .before .twice-less3 .ensures,
+      c .before .before .before .plus4 .ensures,
+      c₁ .twice-less2 .ensures,
+      c₁ .before .plus3 .ensures,
+      c₁ .before .before .twice-less .ensures,
+      c₁ .before .before .before .plus2 .ensures,
+      c₂ .minus .ensures,
+      c₂ .before .half2 .ensures,
+      c₂ .before .before .plus .ensures,
+      c₂ .before .before .before .half .ensures,
+    )
 
 pub unlift-spec : {M : Type 1} → statement M
 unlift-spec =
