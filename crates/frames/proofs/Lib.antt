@@ -5,3 +5,5 @@ pub mod LineLaws
 pub mod BlockLaws
 pub mod ClipLaws
 pub mod PieceLaws
+pub mod WholeLaws
+pub mod FitLaws

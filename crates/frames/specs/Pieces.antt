@@ -85,6 +85,13 @@ run s (b ∷ bs) =
     (record { state = run (nextLine s) bs .state; output = answerTo s true ++ run (nextLine s) bs .output })
     (run (hold s (b ∷ [])) bs)
 
+-- pieces one after the other
+abbrev pub feedAll : State → List (List ℕ) → Ran
+feedAll s [] = record { state = s; output = [] }
+feedAll s (piece ∷ pieces) =
+    let t = run s piece in
+    record { state = feedAll (t .state) pieces .state; output = t .output ++ feedAll (t .state) pieces .output }
+
 -- the end of the input after a line, other than the first
 unfoldable pub nothingLeft : State → Bool
 nothingLeft s = s .started && eqb (length (s .held)) 0

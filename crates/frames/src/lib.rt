@@ -200,7 +200,8 @@ fn has_room(room: usize, made: usize) -> bool
 // A piece of the input: its bytes are taken as long as there is room for the longest line, and what they give is put at the start of the room.
 pub fn feed(s: Partial, piece: &[u8], out: &mut [u8]) -> Taken
     ensures { λ r. ⌜ (r .used ≡ taken (stateOf s) (now (piece .entry)) (length (now (out .entry))))
-        × Fed (stateOf s) (take (r .used) (now (piece .entry))) (now (out .entry)) (now (out .exit)) 0 (r .made) (stateOf (r .state)) ⌝ }
+        × Fed (stateOf s) (take (r .used) (now (piece .entry))) (now (out .entry)) (now (out .exit)) 0 (r .made) (stateOf (r .state))
+        × (r .made ≤ length (now (out .exit))) ⌝ }
 {
     let mut state = s;
     let mut used = 0;
@@ -236,7 +237,8 @@ fn nothing_left(s: Partial) -> bool
 // The end of the input: what is left is put at the start of the room, if there is room for the longest line.
 pub fn finish(s: Partial, out: &mut [u8]) -> End
     ensures { λ r. ⌜ (r .done ≡ leb longestLine (length (now (out .entry))))
-        × Put (now (out .entry)) (now (out .exit)) 0 (cond (r .done) (ending (stateOf s)) []) (r .made) ⌝ }
+        × Put (now (out .entry)) (now (out .exit)) 0 (cond (r .done) (ending (stateOf s)) []) (r .made)
+        × (r .made ≤ length (now (out .exit))) ⌝ }
 {
     if out.len() < 263 {
         return End {

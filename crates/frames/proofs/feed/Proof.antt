@@ -6,6 +6,7 @@ use borrow.Author.Tests.{leb-true}
 use lib.ListN.{length, drop, length-drop}
 use Rattle.frames.specs.Pieces.{stateOf, longestLine}
 use Rattle.frames.proofs.PieceLaws.{Going, going-start, going-line, going-full, going-done, line-some, line-within}
+use Rattle.frames.proofs.FitLaws.{going-fits}
 use borrow.Author.Needs.{needs}
 use Rattle.frames.proofs.feed.Statement.{statement}
 use Rattle.frames.proofs.feed.Tie as tie
@@ -52,15 +53,18 @@ returns c =
     let l = c .before .before .before .loop in
     let r : length (l .out) ≡ length (c .before .before .before .before .before .before .args .out .now) = l .inv .1 in
     let g = l .inv .0 in
-    (going-full g (rw r at (sym (c .before .has-room .ensures) ∙ c .if1 .left)), g .fed)
+    let u = going-full g (rw r at (sym (c .before .has-room .ensures) ∙ c .if1 .left)) in
+    (u, g .fed, omega (arith, going-fits g u))
 
 same-length-2 : tie.Need-same-length-2 Inv-loop μ-loop
 same-length-2 c = search needs
 
 returns-2 : tie.Need-returns-2 Inv-loop μ-loop
 returns-2 c =
-    let g = c .before .loop .inv .0 in
-    (going-done g (c .loop-test .left), g .fed)
+    let l = c .before .loop in
+    let g = l .inv .0 in
+    let u = going-done g (c .loop-test .left) in
+    (u, g .fed, omega (arith, going-fits g u, l .inv .1))
 
 pub feed-spec : {M : Type 1} → statement M
 feed-spec =
