@@ -201,7 +201,7 @@ fn has_room(room: usize, made: usize) -> bool
 pub fn feed(s: Partial, piece: &[u8], out: &mut [u8]) -> Taken
     ensures { λ r. ⌜ (r .used ≡ taken (stateOf s) (now (piece .entry)) (length (now (out .entry))))
         × Fed (stateOf s) (take (r .used) (now (piece .entry))) (now (out .entry)) (now (out .exit)) 0 (r .made) (stateOf (r .state))
-        × (r .made ≤ length (now (out .exit))) ⌝ }
+        × (r .used ≤ length (now (piece .entry))) × (r .made ≤ length (now (out .exit))) ⌝ }
 {
     let mut state = s;
     let mut used = 0;

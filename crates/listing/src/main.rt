@@ -80,7 +80,7 @@ fn failed() -> Next {
 }
 
 // One read, and what came of it.
-fn turn(s: Partial, input: &mut [u8], out: &mut [u8]) -> Turn {
+fn read_once(s: Partial, input: &mut [u8], out: &mut [u8]) -> Turn {
     let got = libc::read(STDIN_FILENO, input);
     if got < 0 {
         let next = failed();
@@ -109,7 +109,7 @@ fn list_all(input: &mut [u8], out: &mut [u8]) {
     let mut state = frames::start();
     let mut turns = u64::MAX;
     while turns > 0 && !frames::stopped(state) {
-        let t = turn(state, input, out);
+        let t = read_once(state, input, out);
         let now = t.state;
         state = now;
         let next = t.next;

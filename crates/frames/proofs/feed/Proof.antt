@@ -54,7 +54,7 @@ returns c =
     let r : length (l .out) ≡ length (c .before .before .before .before .before .before .args .out .now) = l .inv .1 in
     let g = l .inv .0 in
     let u = going-full g (rw r at (sym (c .before .has-room .ensures) ∙ c .if1 .left)) in
-    (u, g .fed, omega (arith, going-fits g u))
+    (u, g .fed, g .within, omega (arith, going-fits g u))
 
 same-length-2 : tie.Need-same-length-2 Inv-loop μ-loop
 same-length-2 c = search needs
@@ -64,7 +64,7 @@ returns-2 c =
     let l = c .before .loop in
     let g = l .inv .0 in
     let u = going-done g (c .loop-test .left) in
-    (u, g .fed, omega (arith, going-fits g u, l .inv .1))
+    (u, g .fed, g .within, omega (arith, going-fits g u, l .inv .1))
 
 pub feed-spec : {M : Type 1} → statement M
 feed-spec =
