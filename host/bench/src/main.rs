@@ -7,42 +7,30 @@ mod fpc;
 mod growth;
 mod slots;
 mod timing;
-#[cfg(libzfp)]
-mod zfp;
-#[cfg(not(libzfp))]
-#[path = "zfp_missing.rs"]
-mod zfp;
 
 use std::time::Instant;
+use zfp::libzfp::Libzfp;
 
-/// Whether libzfp was there when this was built.
-pub const HAS_ZFP: bool = cfg!(libzfp);
+const HEAD: &str = "\
+proved: the static library. reference: plain Rust, written for clarity.
+The programs take turns in every round; ratios are of the times of one round, with their median and (lower to
+upper quartile). Below 1, the proved library is faster.
+Archives are zeroed once; each later pass stores the same blocks over what the one before it left.
+An exact read of the proved library and of the reference codes the block again and compares the slot with it
+(answer 11); libzfp looks for no damage. libzfp goes through one open stream, slot after slot.
+All programs write the same bytes, which is checked before the time is taken.
+";
 
 fn main() {
     let began = Instant::now();
-    println!(
-        "proved: the static library. reference: plain Rust, written for clarity. libzfp: {}.",
-        zfp::version()
-    );
-    println!(
-        "Medians of {} rounds in which the programs take turns; ratios are of the times",
-        timing::ROUNDS
-    );
-    println!(
-        "of one round, with the median and (lower to upper quartile). Below 1, the proved library is faster."
-    );
-    println!(
-        "Archives are zeroed once; each later pass stores the same blocks over what the one before it left."
-    );
-    println!(
-        "An exact read of the proved library and of the reference codes the block again and compares the slot"
-    );
-    println!(
-        "with it (answer 11); libzfp looks for no damage. libzfp goes through one open stream, slot after slot."
-    );
-    println!("All programs write the same bytes, which is checked before the time is taken.");
-    println!();
-    slots::table();
+    let lib = Libzfp::find();
+    print!("{HEAD}");
+    match &lib {
+        Ok(lib) => println!("libzfp: {}, stream words of {} bits.", lib.version, lib.word_bits),
+        Err(missing) => println!("{missing}"),
+    }
+    println!("{} rounds, medians of the times.\n", timing::ROUNDS);
+    slots::table(lib.as_ref().ok());
     fpc::table();
     growth::with_words();
     growth::with_planes();

@@ -2,31 +2,28 @@
 
 use crate::data::{Data, blocks};
 use crate::timing::{Times, Work, measure, spread};
-use crate::{HAS_ZFP, zfp};
 use std::hint::black_box;
 use windlassow::{Dimension, Kind, Mode, Params};
+use zfp::libzfp::{Libzfp, Stream};
 
 /// The blocks of one archive.
 const BLOCKS: usize = 256;
 
-/// One line of the table: parameters, data, and what both libraries are lent.
-pub struct Case {
+/// P of the lossy blocks: the width alone cuts them.
+const PLANES: u32 = 32;
+
+/// One line of the table: parameters and blocks.
+struct Case {
     kind: Kind,
     dimension: Dimension,
     mode: Mode,
-    planes: u32,
     width: u32,
     words: Vec<u32>,
 }
 
 impl Case {
-    /// Blocks in slots of this width.
-    pub fn new(kind: Kind, dimension: Dimension, mode: Mode, planes: u32, width: u32, data: Data) -> Case {
-        Case { kind, dimension, mode, planes, width, words: blocks(kind, dimension, data, BLOCKS) }
-    }
-
-    /// The width at which every exact block fits, or 16 bits a value (dimension 1) and 8 (dimension 2) for lossy ones.
-    fn usual(kind: Kind, dimension: Dimension, mode: Mode, data: Data) -> Case {
+    /// Slots that every exact block fits, or of 16 bits a value (4 words) and of 8 (16 words) for lossy ones.
+    fn new(kind: Kind, dimension: Dimension, mode: Mode, data: Data) -> Case {
         let n = dimension.block_len() as u32;
         let width = match (mode, kind, dimension) {
             (Mode::Exact, Kind::Integers, _) => 33 * n + 4,
@@ -34,11 +31,11 @@ impl Case {
             (Mode::Lossy, _, Dimension::One) => 16 * n,
             (Mode::Lossy, _, Dimension::Two) => 8 * n,
         };
-        Case::new(kind, dimension, mode, 32, width, data)
+        Case { kind, dimension, mode, width, words: blocks(kind, dimension, data, BLOCKS) }
     }
 
     fn params(&self) -> Params {
-        Params::new(self.kind, self.dimension, self.mode, self.planes, self.width)
+        Params::new(self.kind, self.dimension, self.mode, PLANES, self.width)
     }
 
     fn reference_params(&self) -> reference::Params {
@@ -46,7 +43,7 @@ impl Case {
             kind: self.kind as u32,
             dimension: 1 + self.dimension as u32,
             mode: self.mode as u32,
-            planes: self.planes,
+            planes: PLANES,
             width: self.width,
         }
     }
@@ -85,46 +82,48 @@ impl Case {
         }
     }
 
-    /// An archive that all programs write alike. libzfp's last byte may have bits after the last slot.
-    fn archive(&self) -> Vec<u8> {
+    /// An archive that all programs write alike.
+    fn archive(&self, lib: Option<&Libzfp>) -> Vec<u8> {
         let mut archive = vec![0; self.archive_len()];
         let mut expected = archive.clone();
         self.store(&mut archive);
         self.reference_store(&mut expected);
         assert!(archive == expected, "the reference stores otherwise");
-        if HAS_ZFP {
-            let mut stream = zfp::Stream::new(self.reference_params(), BLOCKS);
-            stream.encode(&self.words);
+        if let Some(stream) = self.stream(lib) {
             assert!(archive == stream.bytes(archive.len()), "libzfp stores otherwise");
         }
         archive
     }
 
+    /// libzfp's stream of the blocks.
+    fn stream(&self, lib: Option<&Libzfp>) -> Option<Stream> {
+        let mut stream = lib?.stream(&self.reference_params(), BLOCKS);
+        stream.encode(&self.words);
+        Some(stream)
+    }
+
     /// The time of a store by each program.
-    pub fn time_store(&self) -> Times {
-        let (mut ours, mut theirs) = (self.archive(), self.archive());
+    fn time_store(&self, lib: Option<&Libzfp>) -> Times {
+        let (mut ours, mut theirs) = (self.archive(lib), self.archive(lib));
         let mut programs: Vec<Work> =
             vec![Box::new(|| self.store(&mut ours)), Box::new(|| self.reference_store(&mut theirs))];
-        if HAS_ZFP {
-            let mut stream = zfp::Stream::new(self.reference_params(), BLOCKS);
+        if let Some(mut stream) = self.stream(lib) {
             programs.push(Box::new(move || stream.encode(black_box(&self.words))));
         }
         measure(&mut programs, BLOCKS)
     }
 
     /// The time of a read by each program.
-    pub fn time_read(&self) -> Times {
-        let archive = self.archive();
+    fn time_read(&self, lib: Option<&Libzfp>) -> Times {
+        let archive = self.archive(lib);
         let mut buffers = vec![vec![0u32; self.words.len()]; 3];
-        let [ours, theirs, zfps] = &mut buffers[..] else { unreachable!() };
+        let [ours, theirs, libzfps] = &mut buffers[..] else { unreachable!() };
         let mut programs: Vec<Work> = vec![
             Box::new(|| self.read(black_box(&archive), ours)),
             Box::new(|| self.reference_read(black_box(&archive), theirs)),
         ];
-        if HAS_ZFP {
-            let mut stream = zfp::Stream::new(self.reference_params(), BLOCKS);
-            stream.encode(&self.words);
-            programs.push(Box::new(move || stream.decode(zfps)));
+        if let Some(mut stream) = self.stream(lib) {
+            programs.push(Box::new(move || stream.decode(libzfps)));
         }
         let times = measure(&mut programs, BLOCKS);
         drop(programs);
@@ -135,7 +134,7 @@ impl Case {
 
 fn row(name: &str, times: &Times) {
     let (mut time, mut ratio) = ("-".to_string(), "-".to_string());
-    if HAS_ZFP {
+    if times.programs() == 3 {
         (time, ratio) = (format!("{:.0}", times.median(2)), spread(times.ratio(0, 2)));
     }
     let (ours, theirs) = (times.median(0), times.median(1));
@@ -143,7 +142,7 @@ fn row(name: &str, times: &Times) {
 }
 
 /// The table of stores and reads: every kind, mode and dimension.
-pub fn table() {
+pub fn table(lib: Option<&Libzfp>) {
     println!("Blocks, nanoseconds a block, {BLOCKS} blocks in an archive");
     println!(
         "  exact: slots of 33N + 4 or 33N + 14 bits; lossy: P = 32, 16 bits a value (4 words), 8 (16 words)"
@@ -156,11 +155,11 @@ pub fn table() {
         for kind in [Kind::Integers, Kind::Floats] {
             for dimension in [Dimension::One, Dimension::Two] {
                 for data in [Data::Smooth, Data::Random] {
-                    let case = Case::usual(kind, dimension, mode, data);
+                    let case = Case::new(kind, dimension, mode, data);
                     let name =
                         format!("{mode:?} {kind:?} {:>2} words {}", dimension.block_len(), data.name());
-                    row(&format!("{} store", name.to_lowercase()), &case.time_store());
-                    row(&format!("{} read", name.to_lowercase()), &case.time_read());
+                    row(&format!("{} store", name.to_lowercase()), &case.time_store(lib));
+                    row(&format!("{} read", name.to_lowercase()), &case.time_read(lib));
                 }
             }
         }

@@ -44,6 +44,11 @@ fn repeats(program: &mut Work<'_>) -> u32 {
 }
 
 impl Times {
+    /// How many programs there were.
+    pub fn programs(&self) -> usize {
+        self.0.len()
+    }
+
     /// The median of a program's times.
     pub fn median(&self, program: usize) -> f64 {
         quartiles(self.0[program].clone())[1]

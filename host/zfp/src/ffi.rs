@@ -1,12 +1,15 @@
-//! The functions of libzfp that the comparison calls. All unsafe code is here.
+//! The functions of libzfp that the comparison and the benchmark call. All unsafe code is here and below.
 //!
-//! The declarations are written from the header `zfp.h` of version 1.0.0. libzfp checks no bounds, so every buffer
-//! is of [`ROOM`] bytes, more than a block of these sorts can take or a reading of it can look at.
+//! The declarations are written from the header `zfp.h` of version 1.0.0. libzfp checks no bounds, so the buffer of
+//! a single block is of [`ROOM`] bytes, more than it can take or a reading of it can look at.
 #![allow(unsafe_code)]
+
+mod stream;
 
 use crate::libzfp::{ROOM, Setting, Shape};
 use reference::params::Kind;
 use std::ffi::{CStr, c_char, c_double, c_int, c_uint, c_void};
+pub use stream::Stream;
 
 #[repr(C)]
 struct BitStream {
@@ -27,6 +30,7 @@ unsafe extern "C" {
 
     fn stream_open(buffer: *mut c_void, bytes: usize) -> *mut BitStream;
     fn stream_close(stream: *mut BitStream);
+    fn stream_rewind(stream: *mut BitStream);
     fn stream_wtell(stream: *const BitStream) -> u64;
     fn stream_rtell(stream: *const BitStream) -> u64;
 

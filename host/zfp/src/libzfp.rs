@@ -80,15 +80,21 @@ impl Libzfp {
     pub fn decode(&self, shape: Shape, setting: Setting, bits: &[bool]) -> (Vec<u32>, usize) {
         raw::decode(shape, setting, &bytes_of(bits))
     }
+
+    /// A stream of so many blocks, each padded to W bits.
+    pub fn stream(&self, params: &Params, blocks: usize) -> Stream {
+        Stream::new(checked(params), blocks)
+    }
 }
 
 #[cfg(libzfp)]
 use crate::ffi as raw;
+pub use raw::Stream;
 
 /// No [`Libzfp`] can be had without the library, so these are never called.
 #[cfg(not(libzfp))]
 mod raw {
-    use super::{MISSING, Setting, Shape};
+    use super::{Checked, MISSING, Setting, Shape};
 
     pub fn encode(_: Shape, _: Setting, _: &[u32]) -> (Vec<u8>, usize) {
         unreachable!("{MISSING}")
@@ -96,6 +102,31 @@ mod raw {
 
     pub fn decode(_: Shape, _: Setting, _: &[u8]) -> (Vec<u32>, usize) {
         unreachable!("{MISSING}")
+    }
+
+    /// There is none.
+    pub struct Stream(());
+
+    impl Stream {
+        /// Never called.
+        pub fn new(_: Checked, _: usize) -> Stream {
+            unreachable!("{MISSING}")
+        }
+
+        /// Never called.
+        pub fn encode(&mut self, _: &[u32]) {
+            unreachable!("{MISSING}")
+        }
+
+        /// Never called.
+        pub fn decode(&mut self, _: &mut [u32]) {
+            unreachable!("{MISSING}")
+        }
+
+        /// Never called.
+        pub fn bytes(&self, _: usize) -> Vec<u8> {
+            unreachable!("{MISSING}")
+        }
     }
 }
 
