@@ -1,0 +1,87 @@
+-- What a piece gives fits the room. Assumes nothing.
+use mathlib.Core.Path.{_≡_, refl, sym, ap, _∙_}
+use mathlib.Core.Bool.{Bool, true, false, cond}
+use mathlib.Core.List.{List, [], _∷_, _++_}
+use Prim.Native.Nat.{ℕ, zero, suc, _+_, _-_, _*_, _/_, _≤_, _<_}
+use native.Mathlib.Decide.{ℕ-discrete}
+use native.Mathlib.Omega.{arith}
+use borrow.Author.Tests.{eqb-true, eq-eqb, ne-eqb, leb-true}
+use lib.Dec.{eqb, leb}
+use lib.ListN.{length, take, drop, replicate, length-append}
+use Rattle.slots.specs.declared.Params.{Params}
+use Rattle.slots.specs.Rules.{first, parameterRows, wordCount}
+use Rattle.slots.specs.Outcome.{Stored, storeOutcome}
+use Rattle.slots.proofs.RowLaws.{good}
+use Rattle.frames.specs.Listing.{newline, Line, wellFormed, firstAnswer, answerLine, illFormed, bytesOf, wordsOf, slotBytes, storedLine, blockDigits, blockLine}
+use Rattle.frames.specs.Pieces.{State, longestLine, goodParameters, firstLine, lineOf, laterLine, answerTo, nextLine, hold, run, nothingLeft, ending, taken}
+use Rattle.frames.proofs.PutLaws.{length-answer}
+use Rattle.frames.proofs.PieceLaws.{run-newline, run-byte, Going}
+
+length-bytesOf : (n : ℕ) (bits : List Bool) → length (bytesOf n bits) ≡ n
+length-bytesOf zero bits = refl
+length-bytesOf (suc n) bits = ap suc (length-bytesOf n (drop 8 bits))
+
+stored-length : (p : Params) (o : Stored) → slotBytes p ≤ 128 → length (storedLine p o) ≤ longestLine
+unfolding storedLine
+stored-length p o h = rw (length-answer (o .answer) (o .count) (cond (eqb (o .answer) 0) (bytesOf (slotBytes p) (o .bits)) [])) (go (eqb (o .answer) 0))
+  where
+    go : (t : Bool) → 7 + 2 * length (cond t (bytesOf (slotBytes p) (o .bits)) []) ≤ longestLine
+    go true = omega (arith, length-bytesOf (slotBytes p) (o .bits))
+    go false = omega arith
+
+refusal-length : (answer : ℕ) → length (answerLine answer 0 []) ≤ longestLine
+refusal-length answer = omega (arith, length-answer answer 0 [])
+
+block-length : (p : Params) (l : Line) → goodParameters p ≡ true → length (blockLine p l) ≤ longestLine
+unfolding blockLine slotBytes
+block-length p l e =
+    go (wellFormed (blockDigits p) l)
+  where
+    go : (t : Bool) → length (cond t (storedLine p (storeOutcome p (replicate (slotBytes p) 0) 0 (wordsOf (wordCount p) (l .bytes)))) illFormed) ≤ longestLine
+    go true =
+        let g = good p (eqb-true (first (parameterRows p)) 0 e) in
+        stored-length p (storeOutcome p (replicate (slotBytes p) 0) 0 (wordsOf (wordCount p) (l .bytes))) (omega arith)
+    go false = refusal-length 12
+
+pub answer-length : (s : State) (ended : Bool) → length (answerTo s ended) ≤ longestLine
+unfolding answerTo
+answer-length s ended = go (s .started)
+  where
+    later : (t : Bool) → goodParameters (s .params) ≡ t → length (cond t (blockLine (s .params) (lineOf s ended)) []) ≤ longestLine
+    later true e = block-length (s .params) (lineOf s ended) e
+    later false e = omega arith
+
+    before : (a : ℕ) (t : Bool) → length (cond t [] (answerLine a 0 [])) ≤ longestLine
+    before a true = omega arith
+    before a false = refusal-length a
+
+    go : (b : Bool) → length (cond b (laterLine (s .params) (lineOf s ended)) (firstLine (lineOf s ended))) ≤ longestLine
+    go true = later (goodParameters (s .params)) refl
+    go false = before (firstAnswer (lineOf s ended)) (eqb (firstAnswer (lineOf s ended)) 0)
+
+pub ending-length : (s : State) → length (ending s) ≤ longestLine
+ending-length s = go (nothingLeft s)
+  where
+    go : (t : Bool) → length (cond t [] (answerTo s false)) ≤ longestLine
+    go true = omega arith
+    go false = answer-length s false
+
+-- the bytes taken give no more than there is room for
+pub taken-fits : (s : State) (piece : List ℕ) (room : ℕ) → length (run s (take (taken s piece room) piece) .output) ≤ room
+taken-fits s [] room = omega arith
+taken-fits s (b ∷ bs) room = go (leb longestLine room) refl (ℕ-discrete b newline) (taken-fits (nextLine s) bs (room - length (answerTo s true))) (taken-fits (hold s (b ∷ [])) bs room)
+  where
+    go : (t : Bool) → leb longestLine room ≡ t → Dec (b ≡ newline)
+        → length (run (nextLine s) (take (taken (nextLine s) bs (room - length (answerTo s true))) bs) .output) ≤ room - length (answerTo s true)
+        → length (run (hold s (b ∷ [])) (take (taken (hold s (b ∷ [])) bs room) bs) .output) ≤ room
+        → length (run s (take (taken s (b ∷ bs) room) (b ∷ bs)) .output) ≤ room
+    go true e (yes q) i j =
+        let k = taken (nextLine s) bs (room - length (answerTo s true)) in
+        rw (e, eq-eqb b newline q) (rw (run-newline s b (take k bs) q)
+        (omega (arith, length-append (answerTo s true) (run (nextLine s) (take k bs) .output), answer-length s true, leb-true longestLine room e)))
+    go true e (no q) i j = rw (e, ne-eqb b newline q) (rw (run-byte s b (take (taken (hold s (b ∷ [])) bs room) bs) q) j)
+    go false e d i j = rw e (omega arith)
+
+pub going-fits : {s : State} {piece before after : List ℕ} {t : State} {used made : ℕ} → Going s piece before after t used made
+    → used ≡ taken s piece (length before) → made ≤ length before
+going-fits {s} {piece} {before} g u = omega (arith, g .fed .output .moved, rw (← u) at (taken-fits s piece (length before)))

@@ -1,0 +1,132 @@
+-- An input that is fed in pieces, cut in any way, gives the listing of the whole. Assumes nothing.
+use mathlib.Core.Path.{_≡_, refl, sym, ap, _∙_}
+use mathlib.Core.Bool.{Bool, true, false, _&&_, cond}
+use mathlib.Core.List.{List, [], _∷_, _++_, flatMap, flatten, append-assoc, append-nil}
+use Prim.Native.Nat.{ℕ, suc, _-_, _<_, _≤_}
+use native.Mathlib.Decide.{ℕ-discrete}
+use native.Mathlib.Omega.{arith}
+use borrow.Author.Tests.{eq-eqb, ne-eqb, le-leb}
+use lib.Dec.{eqb, leb}
+use lib.ListN.{length, take, drop}
+use Rattle.slots.specs.declared.Params.{Params}
+use Rattle.slots.specs.Rules.{first, parameterRows}
+use Rattle.frames.specs.Listing.{newline, Line, lastLine, linesAfter, wellFormed, firstDigits, parametersOf, firstAnswer, answerLine, blockLine, listLines, listing}
+use Rattle.frames.specs.Pieces.{State, start, mostHeld, longestLine, goodParameters, noParameters, firstLine, firstParameters, lineOf, laterLine, answerTo, nextLine, hold, Ran, run, nothingLeft, ending, taken, feedAll}
+use Rattle.frames.proofs.ClipLaws.{clip-append, answer-clip, next-clip}
+use Rattle.frames.proofs.PieceLaws.{run-newline, run-byte, run-append-state, run-append-output}
+
+-- the listing of the lines that are left, after the first line and before it
+remaining : Bool → Params → List Line → List ℕ
+remaining true p ls = cond (goodParameters p) (flatMap (blockLine p) ls) []
+remaining false p ls = listLines ls
+
+-- what is left is a last line, or nothing
+last-line : (started : Bool) (p : Params) (full : List ℕ)
+    → ending (record { started = started; params = p; held = take mostHeld full }) ≡ remaining started p (lastLine full)
+unfolding nothingLeft answerTo firstAnswer wellFormed flatMap remaining
+last-line true p [] = go (goodParameters p)
+  where
+    go : (b : Bool) → _≡_ {A = List ℕ} [] (cond b [] [])
+    go true = refl
+    go false = refl
+last-line false p [] = refl
+last-line true p (b ∷ bs) = rw (ne-eqb (length (take mostHeld (b ∷ bs))) 0 (λ e. omega arith)) (answer-clip true p (b ∷ bs) false ∙ go (goodParameters p))
+  where
+    go : (t : Bool) → cond t (blockLine p (record { bytes = b ∷ bs; ended = false })) [] ≡ cond t (blockLine p (record { bytes = b ∷ bs; ended = false }) ++ []) []
+    go true = sym (append-nil _)
+    go false = refl
+last-line false p (b ∷ bs) = answer-clip false p (b ∷ bs) false
+
+-- a first line, then what its parameters list
+first-then : (l : Line) (ls : List Line) → firstLine l ++ remaining true (firstParameters l) ls ≡ listLines (l ∷ ls)
+unfolding firstAnswer remaining
+first-then l ls = go (wellFormed firstDigits l)
+  where
+    a : ℕ
+    a = first (parameterRows (parametersOf (l .bytes)))
+
+    good : (t : Bool) → cond t [] (answerLine a 0 []) ++ cond t (flatMap (blockLine (parametersOf (l .bytes))) ls) []
+        ≡ cond t (flatMap (blockLine (parametersOf (l .bytes))) ls) (answerLine a 0 [])
+    good true = refl
+    good false = append-nil _
+
+    go : (w : Bool)
+        → cond (eqb (cond w a 12) 0) [] (answerLine (cond w a 12) 0 []) ++ remaining true (cond w (parametersOf (l .bytes)) noParameters) ls
+            ≡ cond (eqb (cond w a 12) 0) (flatMap (blockLine (parametersOf (l .bytes))) ls) (answerLine (cond w a 12) 0 [])
+    go true = good (eqb a 0)
+    go false = append-nil _
+
+-- a line, then the rest
+line-then : (started : Bool) (p : Params) (full : List ℕ) (ls : List Line)
+    → answerTo (record { started = started; params = p; held = full }) true ++ remaining true (nextLine (record { started = started; params = p; held = full }) .params) ls
+        ≡ remaining started p (record { bytes = full; ended = true } ∷ ls)
+unfolding answerTo nextLine remaining flatMap
+line-then true p full ls = go (goodParameters p)
+  where
+    go : (t : Bool) → cond t (blockLine p (record { bytes = full; ended = true })) [] ++ cond t (flatMap (blockLine p) ls) []
+        ≡ cond t (blockLine p (record { bytes = full; ended = true }) ++ flatMap (blockLine p) ls) []
+    go true = refl
+    go false = refl
+line-then false p full ls = first-then (record { bytes = full; ended = true }) ls
+
+-- the bytes that are left, after a line of which `full` has come and what is held of it is held
+rest : (input : List ℕ) (started : Bool) (p : Params) (full : List ℕ)
+    → run (record { started = started; params = p; held = take mostHeld full }) input .output
+      ++ ending (run (record { started = started; params = p; held = take mostHeld full }) input .state)
+        ≡ remaining started p (linesAfter full input)
+unfolding hold nextLine
+rest [] started p full = last-line started p full
+rest (b ∷ bs) started p full = go (ℕ-discrete b newline) (λ q. rest bs true q []) (rest bs started p (full ++ (b ∷ [])))
+  where
+    go : Dec (b ≡ newline)
+        → ((q : Params) → run (record { started = true; params = q; held = [] }) bs .output ++ ending (run (record { started = true; params = q; held = [] }) bs .state)
+          ≡ remaining true q (linesAfter [] bs))
+        → run (record { started = started; params = p; held = take mostHeld (full ++ (b ∷ [])) }) bs .output
+          ++ ending (run (record { started = started; params = p; held = take mostHeld (full ++ (b ∷ [])) }) bs .state)
+          ≡ remaining started p (linesAfter (full ++ (b ∷ [])) bs)
+        → run (record { started = started; params = p; held = take mostHeld full }) (b ∷ bs) .output
+          ++ ending (run (record { started = started; params = p; held = take mostHeld full }) (b ∷ bs) .state)
+          ≡ remaining started p (linesAfter full (b ∷ bs))
+    go (yes e) ends goes =
+        let s : State = record { started = started; params = p; held = take mostHeld full } in
+        let t : State = record { started = started; params = p; held = full } in
+        let n = nextLine s in
+        rw (run-newline s b bs e, eq-eqb b newline e)
+        (append-assoc (answerTo s true) (run n bs .output) (ending (run n bs .state))
+          ∙ ap (λ (l : List ℕ). answerTo s true ++ l) (ends (n .params))
+          ∙ ap (λ (l : List ℕ). l ++ remaining true (n .params) (linesAfter [] bs)) (answer-clip started p full true)
+          ∙ ap (λ (x : State). answerTo t true ++ remaining true (x .params) (linesAfter [] bs)) (next-clip started p full)
+          ∙ line-then started p full (linesAfter [] bs))
+    go (no e) ends goes =
+        let s : State = record { started = started; params = p; held = take mostHeld full } in
+        rw (run-byte s b bs e, ne-eqb b newline e, clip-append mostHeld full (b ∷ [])) goes
+
+-- ---- the laws that a program goes by
+
+-- the whole input in one piece
+pub listed : (input : List ℕ) → run start input .output ++ ending (run start input .state) ≡ listing input
+unfolding remaining
+listed input = rest input false noParameters []
+
+-- pieces are as good as the whole
+pub fed-state : (s : State) (pieces : List (List ℕ)) → feedAll s pieces .state ≡ run s (flatten pieces) .state
+unfolding flatten
+fed-state s [] = refl
+fed-state s (x ∷ xs) = fed-state (run s x .state) xs ∙ sym (run-append-state s x (flatten xs))
+
+pub fed-output : (s : State) (pieces : List (List ℕ)) → feedAll s pieces .output ≡ run s (flatten pieces) .output
+unfolding flatten
+fed-output s [] = refl
+fed-output s (x ∷ xs) = ap (λ (l : List ℕ). run s x .output ++ l) (fed-output (run s x .state) xs) ∙ sym (run-append-output s x (flatten xs))
+
+-- an input cut in any way, and then the end: the listing of the whole
+pub listed-in-pieces : (pieces : List (List ℕ)) → feedAll start pieces .output ++ ending (feedAll start pieces .state) ≡ listing (flatten pieces)
+listed-in-pieces pieces = rw (fed-output start pieces, fed-state start pieces) (listed (flatten pieces))
+
+-- with room for the longest line, some byte of a piece is taken
+pub progress : (s : State) (b : ℕ) (piece : List ℕ) (room : ℕ) → longestLine ≤ room → 0 < taken s (b ∷ piece) room
+progress s b piece room h = rw (le-leb longestLine room h) (go (eqb b newline))
+  where
+    go : (t : Bool) → 0 < cond t (suc (taken (nextLine s) piece (room - length (answerTo s true)))) (suc (taken (hold s (b ∷ [])) piece room))
+    go true = omega arith
+    go false = omega arith

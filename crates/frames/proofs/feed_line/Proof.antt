@@ -1,0 +1,69 @@
+-- The bytes up to a newline are held, and the line is answered; or the piece ends before. Assumes nothing.
+use mathlib.Core.Path.{_≡_, sym, ap, _∙_}
+use native.Mathlib.Omega.{arith}
+use lib.ListN.{drop, length-drop}
+use Rattle.frames.specs.Pieces.{stateOf, Ran, beforeNewline}
+use Rattle.frames.proofs.PutLaws.{put-none}
+use Rattle.frames.proofs.PieceLaws.{part, line-ended, line-rest}
+use borrow.Author.Needs.{needs}
+use Rattle.frames.proofs.feed_line.Statement.{statement}
+use Rattle.frames.proofs.feed_line.Tie as tie
+
+newline-at-requires : tie.Need-newline-at-requires
+newline-at-requires c κs = search needs
+
+hold-bytes-requires : tie.Need-hold-bytes-requires
+hold-bytes-requires c κs = search needs
+
+answer-line-requires : tie.Need-answer-line-requires
+answer-line-requires c κs = search needs
+
+next-line-requires : tie.Need-next-line-requires
+next-line-requires c κs = search needs
+
+add-t14 : tie.Need-add-t14
+add-t14 c = search needs
+
+same-length : tie.Need-same-length
+same-length c = search needs
+
+returns : tie.Need-returns
+returns c =
+    let a = c .before .before .before .before .before .before .before .before .before .before .args in
+    let d = drop (a .from) (a .piece .now) in
+    let n = c .before .before .before .before .before .before .before .newline-at .ensures in
+    let h = c .before .before .before .before .before .before .hold-bytes .ensures in
+    let r = line-ended (stateOf (a .s)) d (simp length-drop (omega (arith, c .before .before .before .before .before .if1 .taken))) in
+    let t = part (a .piece .now) (a .from) (c .before .before .before .before .before .before .before .newline-at .result) (beforeNewline d) (n .0) in
+    let q = rw t at h in
+    (record {
+        state = c .next-line .ensures ∙ rw q (sym (ap (λ (x : Ran). x .state) (r .1)));
+        output = rw (r .1, ← q) (c .before .before .before .answer-line .ensures);
+      }, omega arith)
+
+returns-2 : tie.Need-returns-2
+returns-2 c =
+    let a = c .before .before .before .before .before .args in
+    let d = drop (a .from) (a .piece .now) in
+    let n = c .before .before .newline-at .ensures in
+    let h = c .before .hold-bytes .ensures in
+    let r = line-rest (stateOf (a .s)) d (simp length-drop (omega arith)) (simp length-drop (omega (arith, c .if1 .left))) in
+    let t = part (a .piece .now) (a .from) (c .before .before .newline-at .result) (beforeNewline d) (n .0) in
+    let q = rw t at h in
+    (record {
+        state = q ∙ sym (ap (λ (x : Ran). x .state) (r .1));
+        output = rw (r .1) (put-none _ _);
+      }, omega arith)
+
+pub feed-line-spec : {M : Type 1} → statement M
+feed-line-spec =
+    tie.close
+    (tie.spec
+    newline-at-requires
+    hold-bytes-requires
+    answer-line-requires
+    next-line-requires
+    add-t14
+    same-length
+    returns
+    returns-2)

@@ -1,0 +1,25 @@
+-- The first line is done and its parameters are refused. Assumes nothing.
+use Rattle.frames.specs.Pieces.{stateOf, stopped}
+use borrow.Author.Needs.{needs}
+use Rattle.frames.proofs.stopped.Statement.{statement}
+use Rattle.frames.proofs.stopped.Tie as tie
+use Rattle.frames.proofs.stopped.Reads as reads
+use Rattle.frames.proofs.stopped.Lts as lts
+use Rattle.slots.proofs.rows.parameter_row.Reads as parameter-row-reads
+
+-- src/lib.rt:60:9
+parameter-row-requires : tie.Need-parameter-row-requires
+parameter-row-requires c κs = search needs
+
+-- src/lib.rt:56:1
+returns : tie.Need-returns
+unfolding stopped stateOf
+returns c = rw (c .before .if1 .taken, c .parameter-row .ensures)
+
+-- src/lib.rt:56:1
+returns-2 : tie.Need-returns-2
+unfolding stopped stateOf
+returns-2 c = rw (c .if1 .left)
+
+pub stopped-spec : {M : Type 1} → statement M
+stopped-spec = tie.close (tie.spec parameter-row-requires returns returns-2)

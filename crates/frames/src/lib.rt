@@ -1,0 +1,259 @@
+// The listing of document 01, piece by piece: a state by value takes the input's bytes and gives the listing's into lent room.
+ghost use mathlib.Core.Path.{_≡_};
+ghost use mathlib.Core.List.{[], _++_};
+ghost use Prim.Native.Nat.{_+_, _-_, _≤_, _<_, min};
+ghost use lib.ListN.{length, take, drop};
+ghost use lib.Seq.{slice, paste};
+ghost use mathlib.Core.Bool.{cond};
+ghost use lib.Dec.{eqb, leb};
+ghost use Rattle.frames.specs.Pieces.{stateOf, start, stopped, answerTo, nextLine, hold, beforeNewline, lineLength, taken, nothingLeft, ending, longestLine, Put, Fed};
+use slots::Params;
+
+pub mod hex;
+pub mod line;
+
+// What is kept between two pieces: whether the first line is done, its parameters, and the bytes of the line so far.
+pub struct Partial {
+    pub started: bool,
+    pub params: Params,
+    pub line: [u8; 129],
+    pub len: usize,
+}
+
+// The state after some bytes, how many were taken, and how many were given.
+pub struct Taken {
+    pub state: Partial,
+    pub used: usize,
+    pub made: usize,
+}
+
+// Whether there was room for the end, and how many bytes it gave.
+pub struct End {
+    pub done: bool,
+    pub made: usize,
+}
+
+// Before the first piece.
+pub fn start() -> Partial
+    ensures { λ r. ⌜ stateOf r ≡ start ⌝ }
+{
+    let params = Params {
+        kind: 0,
+        dimension: 0,
+        mode: 0,
+        planes: 0,
+        width: 0,
+    };
+    Partial {
+        started: false,
+        params,
+        line: [0u8; 129],
+        len: 0,
+    }
+}
+
+// Whether the first line was bad: nothing more will be given.
+pub fn stopped(s: Partial) -> bool
+    ensures { λ r. ⌜ r ≡ stopped (stateOf s) ⌝ }
+{
+    if s.started {
+        slots::rows::parameter_row(s.params) != 0
+    } else {
+        false
+    }
+}
+
+// The bytes of a line that are held.
+fn held(line: &[u8], len: usize) -> &[u8]
+    ensures { λ r. ⌜ now r ≡ take len (now (line .entry)) ⌝ }
+{
+    if len < line.len() { &line[..len] } else { line }
+}
+
+// The line that is held is answered from place `at` on; the place after that.
+fn answer_line(s: Partial, ended: bool, out: &mut [u8], at: usize) -> usize
+    requires { ⌜ at + longestLine ≤ length (now out) ⌝ }
+    ensures { λ r. ⌜ Put (now (out .entry)) (now (out .exit)) at (answerTo (stateOf s) ended) r ⌝ }
+{
+    let bytes = s.line;
+    if s.started {
+        line::block_line(s.params, held(&bytes, s.len), ended, out, at)
+    } else {
+        line::first_line(held(&bytes, s.len), ended, out, at)
+    }
+}
+
+// The state after the line that is held.
+fn next_line(s: Partial) -> Partial
+    ensures { λ r. ⌜ stateOf r ≡ nextLine (stateOf s) ⌝ }
+{
+    let bytes = s.line;
+    if s.started {
+        let same = s.params;
+        return Partial {
+            started: true,
+            params: same,
+            line: bytes,
+            len: 0,
+        };
+    }
+    let params = line::first_parameters(held(&bytes, s.len), true);
+    Partial {
+        started: true,
+        params,
+        line: bytes,
+        len: 0,
+    }
+}
+
+fn least(a: usize, b: usize) -> usize
+    ensures { λ r. ⌜ r ≡ min a b ⌝ }
+{
+    if a < b { a } else { b }
+}
+
+// So many bytes of a piece go into the line from place n on.
+fn copy_in(line: &mut [u8], n: usize, piece: &[u8], from: usize, m: usize)
+    requires { ⌜ (n + m ≤ length (now line)) × (from + m ≤ length (now piece)) ⌝ }
+    ensures { λ r. ⌜ now (line .exit) ≡ paste (now (line .entry)) n (drop from (now (piece .entry))) m ⌝ }
+{
+    let mut i = 0;
+    while i < m {
+        line[n + i] = piece[from + i];
+        i += 1;
+    }
+}
+
+// The bytes of a piece from one place to another join those held, as many as there is room for; how many are held then.
+fn join(line: &mut [u8], len: usize, piece: &[u8], from: usize, to: usize) -> usize
+    requires { ⌜ (from ≤ to) × (to ≤ length (now piece)) ⌝ }
+    ensures { λ r. ⌜ take r (now (line .exit)) ≡ take (length (now (line .entry))) (take len (now (line .entry)) ++ slice from to (now (piece .entry))) ⌝ }
+{
+    let n = least(len, line.len());
+    let m = least(to - from, line.len() - n);
+    copy_in(line, n, piece, from, m);
+    n + m
+}
+
+// The bytes of a piece from one place to another join the line.
+fn hold_bytes(s: Partial, piece: &[u8], from: usize, to: usize) -> Partial
+    requires { ⌜ (from ≤ to) × (to ≤ length (now piece)) ⌝ }
+    ensures { λ r. ⌜ stateOf r ≡ hold (stateOf s) (slice from to (now (piece .entry))) ⌝ }
+{
+    let mut bytes = s.line;
+    let len = join(&mut bytes, s.len, piece, from, to);
+    let params = s.params;
+    Partial {
+        started: s.started,
+        params,
+        line: bytes,
+        len,
+    }
+}
+
+// The place of the next newline, or the end.
+fn newline_at(piece: &[u8], from: usize) -> usize
+    requires { ⌜ from ≤ length (now piece) ⌝ }
+    ensures { λ r. ⌜ (r ≡ from + beforeNewline (drop from (now (piece .entry)))) × (r ≤ length (now (piece .entry))) ⌝ }
+{
+    let mut i = from;
+    while i < piece.len() {
+        if piece[i] == 10 {
+            return i;
+        }
+        i += 1;
+    }
+    i
+}
+
+// The rest of a line, or of the piece if that ends before the line does.
+fn feed_line(s: Partial, piece: &[u8], from: usize, out: &mut [u8], at: usize) -> Taken
+    requires { ⌜ (from < length (now piece)) × (at + longestLine ≤ length (now out)) ⌝ }
+    ensures { λ r. ⌜ Fed (stateOf s) (take (lineLength (drop from (now (piece .entry)))) (drop from (now (piece .entry)))) (now (out .entry)) (now (out .exit)) at (r .made) (stateOf (r .state))
+        × (r .used ≡ from + lineLength (drop from (now (piece .entry)))) ⌝ }
+{
+    let end = newline_at(piece, from);
+    let line = hold_bytes(s, piece, from, end);
+    if end < piece.len() {
+        let made = answer_line(line, true, out, at);
+        let next = next_line(line);
+        return Taken {
+            state: next,
+            used: end + 1,
+            made,
+        };
+    }
+    Taken {
+        state: line,
+        used: end,
+        made: at,
+    }
+}
+
+// Whether there is room for the longest line after so many bytes.
+fn has_room(room: usize, made: usize) -> bool
+    ensures { λ r. ⌜ r ≡ leb longestLine (room - made) ⌝ }
+{
+    if made < room { 263 <= room - made } else { false }
+}
+
+// A piece of the input: its bytes are taken as long as there is room for the longest line, and what they give is put at the start of the room.
+pub fn feed(s: Partial, piece: &[u8], out: &mut [u8]) -> Taken
+    ensures { λ r. ⌜ (r .used ≡ taken (stateOf s) (now (piece .entry)) (length (now (out .entry))))
+        × Fed (stateOf s) (take (r .used) (now (piece .entry))) (now (out .entry)) (now (out .exit)) 0 (r .made) (stateOf (r .state))
+        × (r .used ≤ length (now (piece .entry))) × (r .made ≤ length (now (out .exit))) ⌝ }
+{
+    let mut state = s;
+    let mut used = 0;
+    let mut made = 0;
+    while used < piece.len() && has_room(out.len(), made) {
+        let t = feed_line(state, piece, used, out, made);
+        let next = t.state;
+        state = next;
+        used = t.used;
+        made = t.made;
+    }
+    Taken { state, used, made }
+}
+
+fn empty(bytes: &[u8]) -> bool
+    ensures { λ r. ⌜ r ≡ eqb (length (now (bytes .entry))) 0 ⌝ }
+{
+    bytes.len() == 0
+}
+
+// Whether the input ends after a line, other than the first.
+fn nothing_left(s: Partial) -> bool
+    ensures { λ r. ⌜ r ≡ nothingLeft (stateOf s) ⌝ }
+{
+    let bytes = s.line;
+    if s.started {
+        empty(held(&bytes, s.len))
+    } else {
+        false
+    }
+}
+
+// The end of the input: what is left is put at the start of the room, if there is room for the longest line.
+pub fn finish(s: Partial, out: &mut [u8]) -> End
+    ensures { λ r. ⌜ (r .done ≡ leb longestLine (length (now (out .entry))))
+        × Put (now (out .entry)) (now (out .exit)) 0 (cond (r .done) (ending (stateOf s)) []) (r .made)
+        × (r .made ≤ length (now (out .exit))) ⌝ }
+{
+    if out.len() < 263 {
+        return End {
+            done: false,
+            made: 0,
+        };
+    }
+    if nothing_left(s) {
+        return End {
+            done: true,
+            made: 0,
+        };
+    }
+    End {
+        done: true,
+        made: answer_line(s, false, out, 0),
+    }
+}

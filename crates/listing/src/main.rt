@@ -1,0 +1,132 @@
+// The listing program: lists standard input on standard output. All that matters is in `frames`; here the bytes come and go.
+ghost use Prim.Native.Nat.{_≤_};
+ghost use lib.ListN.{length};
+use frames::Partial;
+use libc::EINTR;
+use libc::STDIN_FILENO;
+use libc::STDOUT_FILENO;
+
+// What a turn found: more may come, the input ended, or the program stops.
+enum Next {
+    More,
+    Ended,
+    Stop,
+}
+
+struct Turn {
+    state: Partial,
+    next: Next,
+}
+
+struct Part {
+    state: Partial,
+    used: usize,
+}
+
+// Writes all bytes, or says why it cannot.
+fn write_out(bytes: &[u8]) -> bool {
+    let done = io::write_all(STDOUT_FILENO, bytes);
+    if !done {
+        os::fail(b"standard output");
+    }
+    done
+}
+
+// Some bytes of a piece go in, and what they give goes out. No byte is taken where the output failed.
+fn list_part(s: Partial, piece: &[u8], out: &mut [u8]) -> Part
+    ensures { λ r. ⌜ r .used ≤ length (now (piece .entry)) ⌝ }
+{
+    let t = frames::feed(s, piece, out);
+    let made = t.made;
+    let state = t.state;
+    if !write_out(&out[..made]) {
+        return Part { state, used: 0 };
+    }
+    Part {
+        state,
+        used: t.used,
+    }
+}
+
+// A whole piece.
+fn list_piece(s: Partial, piece: &[u8], out: &mut [u8]) -> Turn {
+    let mut state = s;
+    let mut at = 0;
+    while at < piece.len() {
+        let p = list_part(state, &piece[at..], out);
+        let next = p.state;
+        state = next;
+        if p.used == 0 {
+            return Turn {
+                state,
+                next: Next::Stop,
+            };
+        }
+        at += p.used;
+    }
+    Turn {
+        state,
+        next: Next::More,
+    }
+}
+
+// What a read that failed leads to: a signal may interrupt it, and then it is made again.
+fn failed() -> Next {
+    if os::errno() == EINTR {
+        return Next::More;
+    }
+    os::fail(b"standard input");
+    Next::Stop
+}
+
+// One read, and what came of it.
+fn read_once(s: Partial, input: &mut [u8], out: &mut [u8]) -> Turn {
+    let got = libc::read(STDIN_FILENO, input);
+    if got < 0 {
+        let next = failed();
+        return Turn { state: s, next };
+    }
+    if got == 0 {
+        return Turn {
+            state: s,
+            next: Next::Ended,
+        };
+    }
+    let n = io::count(got, input);
+    list_piece(s, &input[..n], out)
+}
+
+// The end of the input.
+fn end(s: Partial, out: &mut [u8]) {
+    let e = frames::finish(s, out);
+    let made = e.made;
+    write_out(&out[..made]);
+}
+
+// Turns until the input ends or the program stops; after a bad first line nothing more is read. A loop has to end and nothing says that the input
+// does, so turns are counted down from a number that no run uses up.
+fn list_all(input: &mut [u8], out: &mut [u8]) {
+    let mut state = frames::start();
+    let mut turns = u64::MAX;
+    while turns > 0 && !frames::stopped(state) {
+        let t = read_once(state, input, out);
+        let now = t.state;
+        state = now;
+        let next = t.next;
+        match next {
+            Next::More => {}
+            Next::Ended => {
+                end(state, out);
+                return;
+            }
+            Next::Stop => return,
+        }
+        turns -= 1;
+    }
+}
+
+fn main() {
+    let mut input = io::large_buffer();
+    let mut out = io::large_buffer();
+    list_all(&mut input, &mut out);
+}

@@ -1,0 +1,40 @@
+//! The time that the proved library takes, beside the independent implementation and beside libzfp.
+//!
+//! Everything is measured in one run, the programs taking turns, and the ratios are given with their quartiles.
+
+mod data;
+mod fpc;
+mod growth;
+mod slots;
+mod timing;
+
+use std::time::Instant;
+use zfp::libzfp::Libzfp;
+
+const HEAD: &str = "\
+proved: the static library. reference: plain Rust, written for clarity.
+The programs take turns in every round; ratios are of the times of one round, with their median and (lower to
+upper quartile). Below 1, the proved library is faster.
+Archives are zeroed once; each later pass stores the same blocks over what the one before it left.
+An exact read of the proved library and of the reference codes the block again and compares the slot with it
+(answer 11); libzfp looks for no damage. libzfp goes through one open stream, slot after slot.
+All programs write the same bytes, which is checked before the time is taken.
+";
+
+fn main() {
+    let began = Instant::now();
+    let lib = Libzfp::find();
+    print!("{HEAD}");
+    match &lib {
+        Ok(lib) => println!("libzfp: {}, stream words of {} bits.", lib.version, lib.word_bits),
+        Err(missing) => println!("{missing}"),
+    }
+    println!("{} rounds, medians of the times.\n", timing::ROUNDS);
+    slots::table(lib.as_ref().ok());
+    fpc::table();
+    growth::with_words();
+    growth::with_planes();
+    growth::with_width_and_archive();
+    growth::with_doubles();
+    println!("{:.0} s in all", began.elapsed().as_secs_f64());
+}

@@ -1,0 +1,36 @@
+//! The proved listing program, found and run as it is built.
+//!
+//! The package's tests compare it with the reference, and the program `million` measures it.
+
+mod pipe;
+mod process;
+mod random;
+
+pub use pipe::feed;
+pub use process::{peak_kib, wait_for};
+pub use random::Random;
+use std::path::{Path, PathBuf};
+
+/// The program: `target/bin/listing` of the repository, or the one that `WINDLASSOW_LISTING` names.
+pub fn program() -> PathBuf {
+    if let Some(named) = std::env::var_os("WINDLASSOW_LISTING") {
+        return named.into();
+    }
+    match option_env!("LISTING_PROGRAM") {
+        Some(built) => built.into(),
+        None => {
+            panic!("this package was built without the listing program, and WINDLASSOW_LISTING names none")
+        }
+    }
+}
+
+/// The repository's folder.
+pub fn repository() -> PathBuf {
+    let package = Path::new(env!("CARGO_MANIFEST_DIR"));
+    package.ancestors().nth(2).expect("the package is at host/listing").to_path_buf()
+}
+
+/// Whether the tests run for minutes, not seconds.
+pub fn is_long() -> bool {
+    std::env::var("WINDLASSOW_LONG").is_ok_and(|value| value == "1")
+}

@@ -1,0 +1,105 @@
+//! Generated inputs: valid and damaged lines of every kind, mode and dimension.
+
+use crate::make::{First, WIDTHS, any_line, good_line, input, line_of};
+use crate::run::compare;
+use listing::{Random, is_long};
+use std::ops::Range;
+
+/// How often each answer was expected.
+struct Answers([usize; 32]);
+
+impl Answers {
+    fn count(&mut self, input: &[u8]) {
+        for line in reference::listing(input).split(|&byte| byte == b'\n').filter(|line| !line.is_empty()) {
+            let number = std::str::from_utf8(&line[..2]).unwrap();
+            self.0[usize::from_str_radix(number, 16).unwrap()] += 1;
+        }
+    }
+
+    /// Fails if one of these answers was never expected: then the test did not reach it.
+    fn must_include(&self, answers: impl IntoIterator<Item = usize>) {
+        for answer in answers {
+            assert!(self.0[answer] > 0, "no input of this test has the answer {answer}");
+        }
+    }
+}
+
+fn generated(seeds: Range<u64>, most: usize) -> Answers {
+    let mut answers = Answers([0; 32]);
+    for seed in seeds {
+        let input = input(&mut Random::new(seed), most);
+        compare(&input);
+        answers.count(&input);
+    }
+    answers
+}
+
+#[test]
+fn short_inputs_of_all_sorts() {
+    let count = if is_long() { 60_000 } else { 2_500 };
+    let answers = generated(1..1 + count, 8);
+    answers.must_include([0, 1, 2, 3, 4, 5, 9, 10, 12]);
+}
+
+#[test]
+fn inputs_of_all_sorts() {
+    let count = if is_long() { 20_000 } else { 800 };
+    let answers = generated(1_000_000..1_000_000 + count, 100);
+    answers.must_include([0, 1, 2, 3, 4, 5, 9, 10, 12]);
+}
+
+/// Every kind, mode and dimension at every width of the table.
+#[test]
+fn every_kind_mode_dimension_and_width() {
+    let mut random = Random::new(2);
+    let mut answers = Answers([0; 32]);
+    let rounds = if is_long() { 60 } else { 1 };
+    for case in 0..8 * WIDTHS.len() * rounds {
+        let first = First {
+            kind: case as u32 & 1,
+            dimension: 1 + (case as u32 >> 1 & 1),
+            mode: case as u32 >> 2 & 1,
+            width: WIDTHS[case / 8 % WIDTHS.len()],
+            ..First::good(&mut random)
+        };
+        let mut input = first.line();
+        (0..30).for_each(|_| input.extend(good_line(&mut random, first)));
+        (0..10).for_each(|_| input.extend(any_line(&mut random, first)));
+        compare(&input);
+        answers.count(&input);
+    }
+    answers.must_include([0, 9, 10, 12]);
+}
+
+/// Every byte at every place of a block's line, its newline too. All are lines of one input.
+#[test]
+fn every_byte_at_every_place_of_a_line() {
+    let mut random = Random::new(3);
+    for dimension in [1, 2] {
+        let first = First { kind: 0, dimension, mode: 1, planes: 32, width: 0x30 };
+        let mut input = first.line();
+        for byte in 0..=255 {
+            let mut line = line_of(&vec![random.word() >> 28; first.block_len()]);
+            for place in 0..line.len() {
+                let before = std::mem::replace(&mut line[place], byte);
+                input.extend(&line);
+                line[place] = before;
+            }
+        }
+        compare(&input);
+    }
+}
+
+/// Lines of every length up to 300, all of digits.
+#[test]
+fn every_length_of_a_line() {
+    for dimension in [1, 2] {
+        let first = First { kind: 1, dimension, mode: 1, planes: 32, width: 1024 };
+        let mut input = first.line();
+        for length in 0..=300 {
+            input.extend(vec![b'3'; length]);
+            input.push(b'\n');
+        }
+        compare(&input);
+    }
+}

@@ -1,0 +1,41 @@
+//! The samples of the repository, and their listings as they stand beside them.
+
+use crate::run::through_pipe;
+use std::fs;
+
+fn sample(name: &str) -> (String, String) {
+    let folder = listing::repository().join("samples");
+    let text = |ending| fs::read_to_string(folder.join(format!("{name}.{ending}"))).unwrap();
+    (text("txt"), text("out"))
+}
+
+#[test]
+fn the_samples_list_as_they_should() {
+    for name in ["blocks", "floats", "squares"] {
+        let (input, output) = sample(name);
+        assert_eq!(String::from_utf8(reference::listing(input.as_bytes())).unwrap(), output, "the reference");
+        assert_eq!(String::from_utf8(through_pipe(input.as_bytes()).stdout).unwrap(), output, "{name}");
+    }
+}
+
+/// The first lines of samples/blocks.txt are document 01's example.
+#[test]
+fn document_01s_example_comes_first() {
+    let (input, output) = sample("blocks");
+    let example = "000101200030\n00000001000000010000000100000001\naaaaaaab55555556aaaaaaac55555558\n";
+    assert!(input.starts_with(example));
+    assert!(output.starts_with("0000271f0000003000\n0a0088\n"));
+}
+
+/// Four +0, four times 1.0 and four -0 in samples/floats.txt: P6, P5 and P6 again.
+#[test]
+fn the_floats_of_the_papers_table() {
+    let (input, output) = sample("floats");
+    let lines: Vec<_> = input.lines().skip(1).zip(output.lines()).collect();
+    assert_eq!(lines[0], (&*"0".repeat(32), &*format!("000001{}", "0".repeat(38))));
+    // 10 00000001 01000 0 110 10, the lowest bit of each byte first, and zeros up to 146 bits.
+    assert_eq!(lines[1], (&*"3f800000".repeat(4), &*format!("000015010a0b{}", "0".repeat(32))));
+    // 1 1 are the lowest two bits of the first byte.
+    assert_eq!(lines[2].0, "80000000".repeat(4));
+    assert!(["3", "7", "b", "f"].contains(&&lines[2].1[7..8]));
+}

@@ -1,0 +1,174 @@
+//! The classes of difference between document 01 and libzfp, each with its condition.
+//!
+//! The conditions come from document 01 and from what libzfp's documentation says of itself (document 002 and
+//! document 004), not from the outcomes compared. What follows from them for libzfp's codes and words is in
+//! [`crate::expected`].
+
+use reference::bits::Reader;
+use reference::floats::{common_exponent, exponent_field, is_zero};
+use reference::params::{Checked, Kind, Mode};
+
+/// Why an outcome of libzfp is not document 01's.
+#[derive(Clone, Copy, Debug, PartialEq, Eq, PartialOrd, Ord)]
+pub enum Class {
+    /// Writing floats: 2^(30-m) is above every binary32 number. See [`scale_overflows`].
+    ScaleOverflow,
+    /// Lossy reading: the budget ends in a scan before place N-1. See [`cut_scan`].
+    CutScan,
+    /// Reading floats: 2^(m-30) is below every binary32 number but 0. See [`scale_underflows`].
+    ScaleUnderflow,
+    /// Row 9: a lossy block of floats with an infinity or a NaN. libzfp leaves open what it writes.
+    NotFinite,
+    /// Row 10: an exact code longer than W. libzfp knows no such refusal.
+    TooLong,
+    /// Row 11: an exact slot that no block has produced. libzfp reads every slot.
+    NotACode,
+}
+
+impl Class {
+    /// All of them, in the order of their letters.
+    pub const ALL: [Class; 6] = [
+        Class::ScaleOverflow,
+        Class::CutScan,
+        Class::ScaleUnderflow,
+        Class::NotFinite,
+        Class::TooLong,
+        Class::NotACode,
+    ];
+
+    /// The place in [`Class::ALL`].
+    pub fn index(self) -> usize {
+        self as usize
+    }
+
+    /// The letter under which the class stands in the report.
+    pub fn letter(self) -> char {
+        (b'A' + self as u8) as char
+    }
+
+    /// A short name.
+    pub fn name(self) -> &'static str {
+        match self {
+            Class::ScaleOverflow => "scale overflow (writing)",
+            Class::CutScan => "cut scan (reading)",
+            Class::ScaleUnderflow => "scale underflow (reading)",
+            Class::NotFinite => "answer 9 (writing)",
+            Class::TooLong => "answer 10 (writing)",
+            Class::NotACode => "answer 11 (reading)",
+        }
+    }
+
+    /// Whether the class is stated for blocks of this kind in this mode. There it must occur, in both dimensions;
+    /// elsewhere it must not.
+    pub fn is_stated(self, kind: Kind, mode: Mode) -> bool {
+        match self {
+            Class::ScaleOverflow | Class::ScaleUnderflow => kind == Kind::Floats,
+            Class::CutScan => mode == Mode::Lossy,
+            Class::NotFinite => kind == Kind::Floats && mode == Mode::Lossy,
+            Class::TooLong | Class::NotACode => mode == Mode::Exact,
+        }
+    }
+}
+
+/// The largest power of two of binary32 is 2^127.
+const LARGEST_POWER: i32 = 127;
+/// The smallest power of two of binary32, a subnormal number, is 2^-149.
+const SMALLEST_POWER: i32 = -149;
+
+/// m = e - 127.
+fn exponent(e: u32) -> i32 {
+    e as i32 - 127
+}
+
+/// The condition of [`Class::ScaleOverflow`]: the factor 2^(30-m) is no finite binary32 number.
+///
+/// That is m < -97, or a largest exponent field below 29. Document 002 names the overflow (ZFP_WITH_DAZ, issue 119);
+/// it speaks of blocks of subnormal numbers alone.
+pub fn scale_overflows(words: &[u32]) -> bool {
+    let some_magnitude = words.iter().any(|&word| !is_zero(word));
+    some_magnitude && 30 - exponent(common_exponent(words)) > LARGEST_POWER
+}
+
+/// The condition of [`Class::ScaleUnderflow`]: the factor 2^(m-30) is rounded to 0 in binary32.
+///
+/// That is m < -119, or e below 8. 2^-150 lies halfway between 0 and 2^-149, and goes to the even one, 0.
+pub fn scale_underflows(e: u32) -> bool {
+    exponent(e) - 30 < SMALLEST_POWER
+}
+
+/// The condition of [`Class::NotFinite`], which is that of row 9.
+pub fn some_not_finite(words: &[u32]) -> bool {
+    words.iter().any(|&word| exponent_field(word) == 255)
+}
+
+/// A bit of the coefficients.
+#[derive(Clone, Copy, Debug, PartialEq, Eq)]
+pub struct Place {
+    /// Which coefficient, in the order of coding.
+    pub coefficient: usize,
+    /// Its bit.
+    pub plane: u32,
+}
+
+/// The condition of [`Class::CutScan`]: a test was answered 1, and the bits end before the scan after it has found
+/// its one or come to place N-1. Gives the place that the scan had come to.
+pub fn cut_scan(bits: &[bool], len: usize, planes: u32) -> Option<Place> {
+    let mut rest = bits.iter();
+    let mut n = 0;
+    for plane in (32 - planes..32).rev() {
+        // The n first bits as they are.
+        for _ in 0..n {
+            rest.next()?;
+        }
+        while n < len && *rest.next()? {
+            while n < len - 1 {
+                match rest.next() {
+                    Some(true) => break,
+                    Some(false) => n += 1,
+                    None => return Some(Place { coefficient: n, plane }),
+                }
+            }
+            n += 1;
+        }
+    }
+    None
+}
+
+/// The bits in front of the planes, and e if there is one. None where there are no planes.
+pub struct Head {
+    /// Their number.
+    pub len: usize,
+    /// e, in the forms of floats that have it.
+    pub e: Option<u32>,
+    /// The planes that follow.
+    pub planes: u32,
+    /// Whether the words are patterns with their negative ones flipped.
+    pub flipped: bool,
+}
+
+impl Head {
+    /// The head of a slot's bits.
+    pub fn of(p: &Checked, slot: &[bool]) -> Option<Head> {
+        let mut reader = Reader::new(slot);
+        let (mut e, mut len, mut flipped) = (None, 0, false);
+        if p.kind == Kind::Floats {
+            if !reader.bit() {
+                return None;
+            }
+            len = 1;
+            if p.mode == Mode::Exact {
+                flipped = reader.bit();
+                len = 2;
+            }
+            if !flipped {
+                e = Some(reader.number(8));
+                len += 8;
+            }
+        }
+        if p.mode == Mode::Lossy {
+            return Some(Head { len, e, planes: p.planes, flipped });
+        }
+        let planes = reader.number(5) + 1;
+        Some(Head { len: len + 5, e, planes, flipped })
+    }
+}

@@ -1,0 +1,124 @@
+//! What libzfp is expected to write and to read: document 01, changed where a class says so and nowhere else.
+//!
+//! This is what makes a class exact. libzfp's codes and words must be these in every comparison, so a difference
+//! that no class explains fails, and a class that says too much fails too.
+
+use crate::bits::padded;
+use crate::classes::{Head, cut_scan, scale_overflows, scale_underflows};
+use crate::libzfp::ROOM;
+use reference::code::encode;
+use reference::floats::{common_exponent, to_pattern};
+use reference::params::{Checked, Kind, Mode};
+use reference::words::flip;
+use reference::{bits, planes, transform};
+
+/// What libzfp writes for a block, as far as it can be known.
+pub enum Code {
+    /// These bits.
+    Known(Vec<bool>),
+    /// These bits first. What follows comes from a conversion that C leaves undefined.
+    Begins(Vec<bool>),
+    /// Anything.
+    Open,
+}
+
+impl Code {
+    /// Whether these bits are such a code.
+    pub fn holds(&self, bits: &[bool]) -> bool {
+        match self {
+            Code::Known(code) => bits == code,
+            Code::Begins(head) => bits.starts_with(head),
+            Code::Open => true,
+        }
+    }
+}
+
+/// The integer that an x86-64 makes of an infinity or a NaN. C leaves the conversion undefined.
+const CONVERTED: Option<u32> = if cfg!(target_arch = "x86_64") { Some(0x8000_0000) } else { None };
+
+/// What libzfp writes for a block.
+pub fn written(p: &Checked, words: &[u32]) -> Code {
+    if p.kind == Kind::Integers {
+        return Code::Known(encode(p, words));
+    }
+    if p.mode == Mode::Lossy && crate::classes::some_not_finite(words) {
+        return Code::Open;
+    }
+    if !scale_overflows(words) {
+        return Code::Known(encode(p, words));
+    }
+    match p.mode {
+        Mode::Lossy => overflowed(p, words),
+        Mode::Exact => Code::Known(reinterpreted(p, words)),
+    }
+}
+
+/// A lossy block whose scale overflows: every value becomes an infinity, or a NaN if it is 0, before it is
+/// converted to an integer. The head is document 01's.
+fn overflowed(p: &Checked, words: &[u32]) -> Code {
+    let mut code = vec![true];
+    code.extend(bits::number(common_exponent(words), 8));
+    let Some(integer) = CONVERTED else {
+        return Code::Begins(code);
+    };
+    let integers = Checked { kind: Kind::Integers, width: p.width - code.len(), ..*p };
+    code.extend(encode(&integers, &vec![integer; words.len()]));
+    Code::Known(code)
+}
+
+/// An exact block whose scale overflows: the values do not come back from their integers, so libzfp takes the form
+/// with bits 1 1 whatever the values are.
+fn reinterpreted(p: &Checked, words: &[u32]) -> Vec<bool> {
+    let flipped: Vec<u32> = words.iter().map(|&word| flip(word)).collect();
+    let mut code = vec![true, true];
+    code.extend(encode(&Checked { kind: Kind::Integers, ..*p }, &flipped));
+    code
+}
+
+/// Which of the classes of reading are in force.
+#[derive(Clone, Copy, Debug)]
+pub struct Rules {
+    /// A cut scan sets the bit at the place that it has come to.
+    pub cut_scan: bool,
+    /// A scale below 2^-149 is 0. In exact mode e = 0, which no writer writes, gives +0s whatever follows; libzfp's
+    /// documentation is silent about that, and we know it from trying it.
+    pub underflow: bool,
+}
+
+impl Rules {
+    /// Document 01.
+    pub const DOCUMENT_01: Rules = Rules { cut_scan: false, underflow: false };
+    /// libzfp.
+    pub const LIBZFP: Rules = Rules { cut_scan: true, underflow: true };
+}
+
+/// The words that a slot reads as. In exact mode libzfp has no budget: zeros follow the slot in its buffer.
+pub fn words_read(p: &Checked, slot: &[bool], rules: Rules) -> Vec<u32> {
+    let bits = if p.mode == Mode::Exact { padded(slot, 8 * ROOM) } else { slot.to_vec() };
+    let Some(head) = Head::of(p, &bits) else {
+        return vec![0; p.block_len()];
+    };
+    let integers = integers_read(p, &bits[head.len..], head.planes, rules);
+    match head.e {
+        Some(0) if rules.underflow && p.mode == Mode::Exact => vec![0; integers.len()],
+        Some(e) if rules.underflow && scale_underflows(e) => integers.into_iter().map(times_zero).collect(),
+        Some(e) => integers.into_iter().map(|integer| to_pattern(e, integer)).collect(),
+        None if head.flipped => integers.into_iter().map(flip).collect(),
+        None => integers,
+    }
+}
+
+/// The integer times 0 in binary32: the zero of its sign.
+fn times_zero(integer: u32) -> u32 {
+    integer & 0x8000_0000
+}
+
+fn integers_read(p: &Checked, bits: &[bool], count: u32, rules: Rules) -> Vec<u32> {
+    let len = p.block_len();
+    let mut coefficients: Vec<u32> = planes::read(bits, len, count);
+    if let Some(place) = cut_scan(bits, len, count).filter(|_| rules.cut_scan) {
+        coefficients[place.coefficient] |= 1 << place.plane;
+    }
+    let step = if p.mode == Mode::Lossy { transform::unlift } else { transform::sums };
+    transform::from_coefficients(&coefficients, p.dimension, step)
+}

@@ -1,0 +1,150 @@
+//! libzfp behind safe calls on lists of bits, or the plain statement that it is not there.
+
+use crate::bits::{bits_of, bytes_of};
+use reference::Params;
+use reference::params::{Checked, Kind, Mode};
+
+/// The bytes of every buffer lent to libzfp: 1,024 bits of a slot and much more.
+pub const ROOM: usize = 512;
+
+/// Said where libzfp is needed and missing.
+pub const MISSING: &str = "libzfp is not installed: apt-get install libzfp-dev";
+
+/// What the words of a block are, and how many.
+#[derive(Clone, Copy, Debug, PartialEq, Eq)]
+pub struct Shape {
+    /// Integers or floats.
+    pub kind: Kind,
+    /// 1 or 2.
+    pub dimension: u32,
+}
+
+impl Shape {
+    /// N.
+    pub fn block_len(self) -> usize {
+        4usize.pow(self.dimension)
+    }
+}
+
+/// How libzfp is told to code a block.
+#[derive(Clone, Copy, Debug)]
+pub enum Setting {
+    /// Expert mode: at least and at most so many bits, so many planes, no limit on exponents.
+    Lossy {
+        /// Zeros are written up to this many bits.
+        least: u32,
+        /// The budget, head included.
+        most: u32,
+        /// The planes.
+        planes: u32,
+    },
+    /// Fixed-rate mode, so many bits a value.
+    Rate(f64),
+    /// Fixed-precision mode, so many planes.
+    Precision(u32),
+    /// Reversible mode.
+    Reversible,
+    /// Reversible mode cut after so many bits.
+    ReversibleWithin(u32),
+}
+
+/// The installed library.
+pub struct Libzfp {
+    /// Its own name of its version.
+    pub version: String,
+    /// The bits of its stream words: 8 in Debian's build, 64 by default.
+    pub word_bits: usize,
+}
+
+impl Libzfp {
+    /// The library, or the message that it is missing.
+    #[cfg(libzfp)]
+    pub fn find() -> Result<Libzfp, &'static str> {
+        let (version, word_bits) = crate::ffi::version();
+        Ok(Libzfp { version, word_bits })
+    }
+
+    /// The message that it is missing.
+    #[cfg(not(libzfp))]
+    pub fn find() -> Result<Libzfp, &'static str> {
+        Err(MISSING)
+    }
+
+    /// The bits that libzfp writes for a block.
+    pub fn encode(&self, shape: Shape, setting: Setting, words: &[u32]) -> Vec<bool> {
+        let (bytes, count) = raw::encode(shape, setting, words);
+        bits_of(&bytes, count)
+    }
+
+    /// The words that libzfp reads from these bits, followed by zeros, and the bits that it took.
+    pub fn decode(&self, shape: Shape, setting: Setting, bits: &[bool]) -> (Vec<u32>, usize) {
+        raw::decode(shape, setting, &bytes_of(bits))
+    }
+
+    /// A stream of so many blocks, each padded to W bits.
+    pub fn stream(&self, params: &Params, blocks: usize) -> Stream {
+        Stream::new(checked(params), blocks)
+    }
+}
+
+#[cfg(libzfp)]
+use crate::ffi as raw;
+pub use raw::Stream;
+
+/// No [`Libzfp`] can be had without the library, so these are never called.
+#[cfg(not(libzfp))]
+mod raw {
+    use super::{Checked, MISSING, Setting, Shape};
+
+    pub fn encode(_: Shape, _: Setting, _: &[u32]) -> (Vec<u8>, usize) {
+        unreachable!("{MISSING}")
+    }
+
+    pub fn decode(_: Shape, _: Setting, _: &[u8]) -> (Vec<u32>, usize) {
+        unreachable!("{MISSING}")
+    }
+
+    /// There is none.
+    pub struct Stream(());
+
+    impl Stream {
+        /// Never called.
+        pub fn new(_: Checked, _: usize) -> Stream {
+            unreachable!("{MISSING}")
+        }
+
+        /// Never called.
+        pub fn encode(&mut self, _: &[u32]) {
+            unreachable!("{MISSING}")
+        }
+
+        /// Never called.
+        pub fn decode(&mut self, _: &mut [u32]) {
+            unreachable!("{MISSING}")
+        }
+
+        /// Never called.
+        pub fn bytes(&self, _: usize) -> Vec<u8> {
+            unreachable!("{MISSING}")
+        }
+    }
+}
+
+/// The shape that the parameters name.
+pub fn shape(p: &Checked) -> Shape {
+    Shape { kind: p.kind, dimension: p.dimension }
+}
+
+/// The setting that stands for document 01's mode, P and W. In exact mode document 01 compares the whole code with
+/// W, so libzfp has no budget there.
+pub fn setting(p: &Checked) -> Setting {
+    match p.mode {
+        Mode::Lossy => Setting::Lossy { least: 1, most: p.width as u32, planes: p.planes },
+        Mode::Exact => Setting::Reversible,
+    }
+}
+
+/// Parameters that are known to be good.
+pub fn checked(p: &Params) -> Checked {
+    p.check().expect("the comparison uses good parameters")
+}

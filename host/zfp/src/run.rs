@@ -1,0 +1,168 @@
+//! The whole comparison, part by part.
+
+use crate::compare::Comparison;
+use crate::libzfp::{Libzfp, checked};
+use crate::make::{MAKERS, any_block, block_of_field};
+use crate::random::Random;
+use crate::slots::{damage, headed_slot, random_slot, slot_of_e};
+use crate::tally::Origin;
+use reference::Params;
+
+/// Every kind, mode and dimension.
+fn all_kinds() -> impl Iterator<Item = Params> {
+    (0..8).map(|k| Params { kind: k >> 2, mode: k >> 1 & 1, dimension: 1 + (k & 1), planes: 32, width: 0 })
+}
+
+const FLOATS: u32 = 1;
+const LOSSY: u32 = 0;
+
+fn block_len(p: &Params) -> usize {
+    4usize.pow(p.dimension)
+}
+
+fn any_planes(random: &mut Random) -> u32 {
+    if random.once_in(3) { 32 } else { random.between(1, 32) }
+}
+
+/// Widths of every size: for lossy blocks mostly those that cut their codes, for exact ones mostly wide enough.
+fn any_width(random: &mut Random, p: &Params) -> u32 {
+    let longest = 33 * block_len(p) as u32 + 14;
+    let (narrow, about, any) =
+        (random.between(16, 64), random.between(16, longest), random.between(16, 1024));
+    if p.mode == LOSSY {
+        random.pick(&[0, narrow, about, about, longest, any])
+    } else {
+        random.pick(&[0, about, longest, longest, longest, any])
+    }
+}
+
+/// A comparison with a generator of its own.
+struct Run {
+    comparison: Comparison,
+    random: Random,
+    scale: usize,
+}
+
+/// Runs all parts. `scale` multiplies the number of blocks and slots.
+pub fn run(lib: Libzfp, seed: u64, scale: usize) -> Comparison {
+    let mut run = Run { comparison: Comparison::new(lib), random: Random::new(seed), scale };
+    run.every_way_of_making_blocks();
+    run.every_width();
+    run.every_number_of_planes();
+    run.every_exponent_field();
+    run.every_budget();
+    run.damaged_slots();
+    run.made_slots();
+    run.every_e();
+    run.comparison
+}
+
+impl Run {
+    fn every_way_of_making_blocks(&mut self) {
+        for p in all_kinds() {
+            for (_, make) in MAKERS {
+                for _ in 0..400 * self.scale {
+                    let width = any_width(&mut self.random, &p);
+                    let p = Params { planes: any_planes(&mut self.random), width, ..p };
+                    let words = make(&mut self.random, block_len(&p));
+                    self.comparison.block(&p, &words);
+                }
+            }
+        }
+    }
+
+    fn every_width(&mut self) {
+        for p in all_kinds() {
+            for width in std::iter::once(0).chain(16..=1024) {
+                for _ in 0..2 * self.scale {
+                    let p = Params { planes: any_planes(&mut self.random), width, ..p };
+                    let words = any_block(&mut self.random, block_len(&p));
+                    self.comparison.block(&p, &words);
+                }
+            }
+        }
+    }
+
+    fn every_number_of_planes(&mut self) {
+        for p in all_kinds() {
+            for planes in 1..=32 {
+                for _ in 0..60 * self.scale {
+                    let p = Params { planes, width: any_width(&mut self.random, &p), ..p };
+                    let words = any_block(&mut self.random, block_len(&p));
+                    self.comparison.block(&p, &words);
+                }
+            }
+        }
+    }
+
+    /// Floats of every largest exponent field. Both scales fail somewhere among the low ones.
+    fn every_exponent_field(&mut self) {
+        for p in all_kinds().filter(|p| p.kind == FLOATS) {
+            for field in 0..255 {
+                for _ in 0..8 * self.scale {
+                    let width = any_width(&mut self.random, &p);
+                    let p = Params { planes: any_planes(&mut self.random), width, ..p };
+                    let words = block_of_field(&mut self.random, block_len(&p), field);
+                    self.comparison.block(&p, &words);
+                }
+            }
+        }
+    }
+
+    /// One block at every budget: cuts at every place of its code.
+    fn every_budget(&mut self) {
+        for p in all_kinds().filter(|p| p.mode == LOSSY) {
+            for _ in 0..8 * self.scale {
+                let p = Params { planes: any_planes(&mut self.random), ..p };
+                let words = any_block(&mut self.random, block_len(&p));
+                for width in 16..=33 * block_len(&p) as u32 + 14 {
+                    self.comparison.block(&Params { width, ..p }, &words);
+                }
+            }
+        }
+    }
+
+    fn damaged_slots(&mut self) {
+        for p in all_kinds() {
+            for _ in 0..3000 * self.scale {
+                let width = any_width(&mut self.random, &p);
+                let p = Params { planes: any_planes(&mut self.random), width, ..p };
+                let words = any_block(&mut self.random, block_len(&p));
+                let Some(mut slot) = self.comparison.block(&p, &words) else {
+                    continue;
+                };
+                damage(&mut self.random, &mut slot);
+                self.comparison.read(&p, &slot, Origin::Damaged);
+            }
+        }
+    }
+
+    fn made_slots(&mut self) {
+        for p in all_kinds() {
+            for _ in 0..6000 * self.scale {
+                let width = any_width(&mut self.random, &p);
+                let p = Params { planes: any_planes(&mut self.random), width, ..p };
+                let slot = if self.random.once_in(2) {
+                    random_slot(&mut self.random, checked(&p).width)
+                } else {
+                    headed_slot(&mut self.random, &checked(&p))
+                };
+                self.comparison.read(&p, &slot, Origin::Made);
+            }
+        }
+    }
+
+    /// Slots of floats with every e.
+    fn every_e(&mut self) {
+        for p in all_kinds().filter(|p| p.kind == FLOATS) {
+            for e in 0..256 {
+                for _ in 0..8 * self.scale {
+                    let width = any_width(&mut self.random, &p);
+                    let p = Params { planes: any_planes(&mut self.random), width, ..p };
+                    let slot = slot_of_e(&mut self.random, &checked(&p), e);
+                    self.comparison.read(&p, &slot, Origin::Made);
+                }
+            }
+        }
+    }
+}

@@ -1,0 +1,81 @@
+//! The counts of a comparison, for each kind, mode and dimension.
+
+use crate::classes::Class;
+use reference::Params;
+use reference::params::{Kind, Mode};
+
+/// Where a slot comes from.
+#[derive(Clone, Copy, Debug, PartialEq, Eq)]
+pub enum Origin {
+    /// The proved library and libzfp have both written it.
+    Both,
+    /// The proved library has written it, libzfp writes the block otherwise.
+    Ours,
+    /// libzfp has written it, the proved library writes the block otherwise or refuses it.
+    Theirs,
+    /// A written slot with damaged bits.
+    Damaged,
+    /// Bits that no store has written.
+    Made,
+}
+
+/// The number of origins.
+pub const ORIGINS: usize = 5;
+
+/// What was seen of one kind, mode and dimension.
+#[derive(Clone, Debug, Default)]
+pub struct Row {
+    /// Blocks written by both.
+    pub blocks: u64,
+    /// Blocks whose codes are the same, bit for bit and in length.
+    pub codes_equal: u64,
+    /// Blocks of whose codes both report the same number of bits.
+    pub counts_equal: u64,
+    /// Slots read by both, by their origin.
+    pub slots: [u64; ORIGINS],
+    /// Slots that both read as the same words.
+    pub words_equal: u64,
+    /// Differences, by class.
+    pub classes: [u64; Class::ALL.len()],
+}
+
+/// One row for each kind, mode and dimension.
+#[derive(Clone, Debug, Default)]
+pub struct Tally {
+    rows: [Row; 8],
+}
+
+impl Tally {
+    /// The row of these parameters.
+    pub fn row(&mut self, p: &Params) -> &mut Row {
+        let index = 4 * p.kind + 2 * p.mode + p.dimension - 1;
+        &mut self.rows[index as usize]
+    }
+
+    /// All rows, each with its kind, mode and dimension.
+    pub fn rows(&self) -> impl Iterator<Item = (Kind, Mode, u32, &Row)> {
+        self.rows.iter().enumerate().map(|(index, row)| {
+            let kind = if index < 4 { Kind::Integers } else { Kind::Floats };
+            let mode = if index & 2 == 0 { Mode::Lossy } else { Mode::Exact };
+            (kind, mode, 1 + (index as u32 & 1), row)
+        })
+    }
+
+    /// What is wrong with the classes: one that is stated and never occurs, or occurs where it is not stated.
+    pub fn complaints(&self) -> Vec<String> {
+        let mut complaints = Vec::new();
+        for (kind, mode, dimension, row) in self.rows() {
+            for class in Class::ALL {
+                let count = row.classes[class.index()];
+                if class.is_stated(kind, mode) != (count > 0) {
+                    complaints.push(format!(
+                        "{kind:?}, {mode:?}, dimension {dimension}: {count} differences of class {}, {}",
+                        class.letter(),
+                        class.name()
+                    ));
+                }
+            }
+        }
+        complaints
+    }
+}

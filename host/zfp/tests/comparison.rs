@@ -1,0 +1,142 @@
+//! The comparison with libzfp, for some seconds; for minutes with `WINDLASSOW_LONG=1`.
+
+use reference::{Params, bits, planes};
+use zfp::bits::{bits_of, padded};
+use zfp::classes::Class;
+use zfp::compare::Comparison;
+use zfp::libzfp::Libzfp;
+use zfp::random::Random;
+use zfp::report::{reading, writing};
+use zfp::run::run;
+use zfp::tally::Origin;
+use zfp::witness::WITNESSES;
+
+/// The report that must hold what the comparison counts.
+const REPORT: &str = include_str!("../../../docs/DIFFERENCES.md");
+
+fn lib() -> Libzfp {
+    Libzfp::find().unwrap_or_else(|message| panic!("{message}"))
+}
+
+fn is_long() -> bool {
+    std::env::var("WINDLASSOW_LONG").is_ok_and(|value| value == "1")
+}
+
+/// Fails with the first of them, if there are any.
+fn none(failures: &[String]) {
+    assert!(failures.is_empty(), "{} failures, the first: {}", failures.len(), failures[0]);
+}
+
+/// Every difference has a class, every class occurs where it is stated, and every block and slot is counted once.
+fn is_explained(comparison: &Comparison) {
+    none(&comparison.failures);
+    none(&comparison.tally.complaints());
+    for (_, _, _, row) in comparison.tally.rows() {
+        let count = |classes: [Class; 3]| classes.iter().map(|class| row.classes[class.index()]).sum::<u64>();
+        let written = count([Class::ScaleOverflow, Class::NotFinite, Class::TooLong]);
+        let read = count([Class::CutScan, Class::ScaleUnderflow, Class::NotACode]);
+        assert_eq!(row.codes_equal + written, row.blocks);
+        assert_eq!(row.words_equal + read, row.slots.iter().sum::<u64>());
+    }
+}
+
+fn is_reported(lines: &[String]) {
+    for line in lines {
+        assert!(REPORT.contains(line), "docs/DIFFERENCES.md lacks the line: {line}");
+    }
+}
+
+#[test]
+fn every_difference_has_a_class() {
+    let comparison = run(lib(), 1, 1);
+    is_explained(&comparison);
+    is_reported(&writing(&comparison.tally));
+    is_reported(&reading(&comparison.tally));
+    if is_long() {
+        is_explained(&run(lib(), 2, 40));
+    }
+}
+
+#[test]
+fn the_examples_are_in_their_classes() {
+    let mut comparison = Comparison::new(lib());
+    for witness in WITNESSES {
+        let (lines, class) = witness.show(&mut comparison);
+        assert_eq!(class, Some(witness.class), "{lines:?}");
+        is_reported(&lines);
+    }
+    none(&comparison.failures);
+}
+
+/// libzfp asks for lossy integers of a magnitude below 2^30. Larger ones overflow its sums, which C leaves undefined;
+/// in this build they are taken modulo 2^32, as document 01 has it.
+#[test]
+fn lossy_integers_above_libzfps_range() {
+    let mut random = Random::new(8);
+    let mut comparison = Comparison::new(lib());
+    for dimension in [1, 2] {
+        for _ in 0..if is_long() { 400_000 } else { 10_000 } {
+            let mut words: Vec<u32> = (0..4usize.pow(dimension)).map(|_| random.word()).collect();
+            // The two highest bits differ, so the magnitude of one word at least is 2^30 or more.
+            words[0] = words[0] & 0xBFFF_FFFF | !words[0] >> 1 & 0x4000_0000;
+            let planes = random.between(1, 32);
+            let p = Params { kind: 0, dimension, mode: 0, planes, width: random.between(16, 1024) };
+            assert_eq!(comparison.write(&p, &words).class, None);
+        }
+    }
+    none(&comparison.failures);
+}
+
+/// Class A by itself: four equal floats are whole multiples, so document 01's form has bits 1 0. libzfp's has too
+/// exactly from the exponent field 29 on.
+#[test]
+fn the_scale_overflows_below_the_field_29() {
+    let mut comparison = Comparison::new(lib());
+    for dimension in [1, 2] {
+        for field in 0..255 {
+            let words = vec![field << 23 | 0x0040_0000; 4usize.pow(dimension)];
+            for (mode, width) in [(0, 600), (1, 600)] {
+                let p = Params { kind: 1, dimension, mode, planes: 32, width };
+                let class = comparison.write(&p, &words).class;
+                assert_eq!(class, (field < 29).then_some(Class::ScaleOverflow), "field {field}");
+            }
+        }
+    }
+    none(&comparison.failures);
+}
+
+/// Class C by itself: the first coefficient is 2^28 and the others are 0, so all values are 2^28 times 2^(e-157), a
+/// number that binary32 has for every e. libzfp reads it exactly from e = 8 on.
+#[test]
+fn the_scale_underflows_below_e_8() {
+    let mut comparison = Comparison::new(lib());
+    for dimension in [1, 2] {
+        let mut coefficients = vec![0u32; 4usize.pow(dimension)];
+        coefficients[0] = 1 << 28;
+        for e in 0..256 {
+            let mut slot = vec![true];
+            slot.extend(bits::number(e, 8));
+            slot.extend(planes::code(&coefficients, 32));
+            let p = Params { kind: 1, dimension, mode: 0, planes: 32, width: 600 };
+            let read = comparison.read(&p, &padded(&slot, 600), Origin::Made);
+            assert_eq!(read.class, (e < 8).then_some(Class::ScaleUnderflow), "e = {e}");
+        }
+    }
+    none(&comparison.failures);
+}
+
+/// All slots of the smallest width, in every kind, mode and dimension.
+#[test]
+fn every_slot_of_16_bits() {
+    let mut comparison = Comparison::new(lib());
+    let planes = if is_long() { (1..=32).collect() } else { vec![32] };
+    for planes in planes {
+        for k in 0..8 {
+            let p = Params { kind: k & 1, dimension: 1 + (k >> 1 & 1), mode: k >> 2, planes, width: 16 };
+            for slot in 0..=u16::MAX {
+                comparison.read(&p, &bits_of(&slot.to_le_bytes(), 16), Origin::Made);
+            }
+        }
+    }
+    none(&comparison.failures);
+}
