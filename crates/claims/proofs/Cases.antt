@@ -22,6 +22,9 @@ use Rattle.predict.specs.Outcome.{goodSize, goodTables, delivered, readOutcome}
 use Rattle.bits.specs.Stream.{write}
 use Rattle.slots.specs.Rules.{slotsIn, codeOf}
 use Rattle.slots.specs.Outcome.{storeOutcome}
+use mathlib.Core.List.{flatMap}
+use Rattle.frames.specs.Hex.{hexDigit, digitValue}
+use Rattle.frames.specs.Listing.{wellFormed, parametersOf, firstAnswer, answerLine, slotBytes, storedLine, blockLine}
 use Rattle.claims.specs.Table.{Table}
 
 -- everything that the cases compute with
@@ -30,8 +33,9 @@ unfolding plus minus half twiceLess nega unnega flip planeCode planeNext planesC
     toInteger toPattern signed scaled whole ofBits toBits round planesNeeded exactPlanes lossyIntegers lossyFloats exactIntegers exactFloats definedCode
     readIntegers readExactFloats readLossyFloats readCode slotsIn codeOf write storeOutcome
     leadingZeros side fcmHash dfcmHash zeroBytes residual code halfByte remaining pairBytes oddBytes stream decoded coded stepOf read goodSize goodTables delivered readOutcome
+    flatMap hexDigit digitValue wellFormed parametersOf firstAnswer answerLine slotBytes storedLine blockLine
 computed = 0
 
 pub cases : Table
 unfolding computed
-cases = (refl, (refl, refl), refl, (refl, refl, refl), refl, (refl, refl), refl, (refl, refl), λ b. (refl, refl), (refl, refl), refl, refl, λ n. (refl, rw (zero-mod (suc n)), refl), (λ n. refl, refl), λ room. refl, refl, refl, refl, refl, refl)
+cases = (refl, (refl, refl), refl, (refl, refl, refl), refl, (refl, refl), refl, (refl, refl), λ b. (refl, refl), (refl, refl), refl, refl, λ n. (refl, rw (zero-mod (suc n)), refl), (λ n. refl, refl), λ room. refl, refl, refl, refl, refl, refl, refl, (refl, refl, refl))

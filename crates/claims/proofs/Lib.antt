@@ -7,3 +7,4 @@ pub mod Demand3
 pub mod Isolation
 pub mod PlanesBack
 pub mod RunBack
+pub mod Listing

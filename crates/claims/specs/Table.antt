@@ -14,6 +14,8 @@ use Rattle.codec.specs.Read.{readCode}
 use Rattle.slots.specs.Outcome.{storeOutcome}
 use Rattle.predict.specs.Stream.{stream}
 use Rattle.predict.specs.Outcome.{zeroed, readOutcome}
+use Rattle.frames.specs.Listing.{listing}
+use Rattle.claims.specs.Text.{text, line}
 
 -- bits as the cases write them, in digits 0 and 1
 abbrev pub bits : List ℕ → List Bool
@@ -126,5 +128,18 @@ HashWraps =
     stream 16 (0x4059_0000_0000_0000 ∷ 0x4059_4000_0000_0000 ∷ 0x4059_8000_0000_0000 ∷ 0x4059_c000_0000_0000 ∷ [])
     ≡ 0x00 ∷ 0x00 ∷ 0x00 ∷ 0x00 ∷ 0x00 ∷ 0x00 ∷ 0x00 ∷ 0x59 ∷ 0x40 ∷ 0x00 ∷ 0x00 ∷ 0x00 ∷ 0x00 ∷ 0x00 ∷ 0x40 ∷ 0x59 ∷ 0x40 ∷ 0xff ∷ []
 
+-- "In: .. Out: ..", the listing that P2 cites
+abbrev pub Listed : Type 0
+Listed =
+    listing (line "000101200030" ++ line "00000001000000010000000100000001" ++ line "aaaaaaab55555556aaaaaaac55555558")
+    ≡ line "0000271f0000003000" ++ line "0a0088"
+
+-- "so is empty input, as a first line"; a bad first line's one answer; "For an ill-formed line 12 comes before all other rows"
+abbrev pub ListedBad : Type 0
+ListedBad =
+    (listing [] ≡ line "0c0000")
+    × (listing (line "000301200030" ++ line "00000001000000010000000100000001") ≡ line "020000")
+    × (listing (line "010100200030" ++ line "7F800000000000000000000000000000" ++ line "7f800000000000000000000000000000" ++ text "00") ≡ line "0c0000" ++ line "090000" ++ line "0c0000")
+
 abbrev pub Table : Type 0
-Table = P1 × P2 × P3 × P4 × P5 × P6 × P7 × P8 × P9 × CutScan × CutScanAtLast × CutVerbatim × P10 × P11 × P12 × FourAsThree × DfcmTaken × TieTakesFcm × OddThree × HashWraps
+Table = P1 × P2 × P3 × P4 × P5 × P6 × P7 × P8 × P9 × CutScan × CutScanAtLast × CutVerbatim × P10 × P11 × P12 × FourAsThree × DfcmTaken × TieTakesFcm × OddThree × HashWraps × Listed × ListedBad

@@ -3,14 +3,15 @@ use mathlib.Core.Path.{_≡_, refl, sym, ap, _∙_}
 use mathlib.Core.Bool.{Bool, true, false, _&&_, cond, and-eq-true-iff}
 use mathlib.Core.List.{List, [], _∷_, _++_}
 use Prim.Native.Nat.{ℕ, zero, suc, _+_, _-_, _*_, _/_, _%_, _^_, _≤_, _<_}
-use native.Mathlib.Nat.{pow-suc, suc-mul, lt-of-lt-of-le, pow-le-pow-right}
+use native.Mathlib.Nat.{pow-suc, suc-mul, mul-comm, mul-assoc, mul-add, add-mul, add-assoc, lt-of-lt-of-le, mul-le-mul-left, pow-le-pow-right, one-le-pow, mod-lt, mod-one, mod-add-div, mod-eq-of-lt, add-mul-mod-self-left}
+use native.Mathlib.Decide.{decLt}
 use native.Mathlib.Omega.{arith}
-use borrow.Author.Tests.{leb-true}
+use borrow.Author.Tests.{leb-true, lt-ltb, le-ltb, le-leb, lt-leb}
 use lib.Dec.{leb}
 use lib.Pow.{pow-add}
 use lib.ListN.{length, set, drop, getD}
 use lib.Seq.{sets, slice, drop-cons, slice-cons}
-use Rattle.frames.specs.Hex.{hexDigit, hexDigits, isDecimal, isLetter, isDigit, allDigits, digitValue, valueAfter}
+use Rattle.frames.specs.Hex.{hexDigit, hexDigits, isDecimal, isLetter, isDigit, allDigits, digitValue, valueAfter, hexValue}
 
 -- ---- digits
 
@@ -68,3 +69,50 @@ digit-more v d j h k = rw pow-suc (omega arith)
 
 pub eight-fit : (v j : ℕ) → v < 16 ^ j → j ≤ 8 → v < 2 ^ 32
 eight-fit v j h k = lt-of-lt-of-le h (pow-le-pow-right (omega arith) k)
+
+-- ---- there and back
+
+digit-back : (d : ℕ) → d < 16 → digitValue (hexDigit d) ≡ d
+unfolding digitValue hexDigit
+digit-back d h = go (decLt d 10)
+  where
+    go : Dec (d < 10) → digitValue (hexDigit d) ≡ d
+    go (yes k) = rw (lt-ltb d 10 k, le-leb 48 (48 + d) (omega arith), le-leb (48 + d) 57 (omega arith)) (omega arith)
+    go (no k) =
+        rw (le-ltb d 10 (omega arith), le-leb 48 (87 + d) (omega arith), lt-leb (87 + d) 57 (omega arith), le-leb 97 (87 + d) (omega arith), le-leb (87 + d) 102 (omega arith))
+        (omega arith)
+
+-- a remainder by sixteen times as much
+mod-sixteen : (n q : ℕ) → 0 < q → n % (q * 16) ≡ n % q + q * (n / q % 16)
+mod-sixteen n q h =
+    let a = n / q in
+    let r = n % q + q * (a % 16) in
+    let z : a % 16 ≤ 15 = omega arith in
+    let e : n ≡ r + q * 16 * (a / 16) =
+        sym (mod-add-div n q)
+        ∙ ap (λ (x : ℕ). n % q + q * x) (sym (mod-add-div a 16))
+        ∙ ap (λ (x : ℕ). n % q + x) (mul-add q (a % 16) (16 * (a / 16)) ∙ ap (λ (x : ℕ). q * (a % 16) + x) (sym (mul-assoc q 16 (a / 16))))
+        ∙ sym (add-assoc (n % q) (q * (a % 16)) (q * 16 * (a / 16))) in
+    let small : r < q * 16 = omega (arith, mod-lt n h, mul-le-mul-left q z) in
+    ap (λ (x : ℕ). x % (q * 16)) e ∙ add-mul-mod-self-left r (q * 16) (a / 16) ∙ mod-eq-of-lt small
+
+regroup : (v d q r : ℕ) → (v * 16 + d) * q + r ≡ v * (q * 16) + (r + q * d)
+regroup v d q r =
+    let e : (v * 16 + d) * q ≡ v * (q * 16) + q * d =
+        add-mul (v * 16) d q ∙ ap (λ (x : ℕ). x + d * q) (mul-assoc v 16 q ∙ ap (λ (x : ℕ). v * x) (mul-comm 16 q)) ∙ ap (λ (x : ℕ). v * (q * 16) + x) (mul-comm d q) in
+    rw e (omega arith)
+
+value-after : (k v n : ℕ) → valueAfter v (hexDigits k n) ≡ v * 16 ^ k + n % 16 ^ k
+value-after zero v n = rw (mod-one n) (omega arith)
+value-after (suc k) v n =
+    let q = 16 ^ k in
+    let d = n / q % 16 in
+    ap (λ (x : ℕ). valueAfter (v * 16 + x) (hexDigits k n)) (digit-back d (mod-lt (n / q) (omega arith)))
+    ∙ value-after k (v * 16 + d) n
+    ∙ regroup v d q (n % q)
+    ∙ ap (λ (x : ℕ). v * (q * 16) + x) (sym (mod-sixteen n q (one-le-pow k 16 (omega arith))))
+    ∙ ap (λ (x : ℕ). v * x + n % x) (sym (pow-suc 16 k))
+
+-- the digits of a number give the number
+pub value-digits : (k n : ℕ) → n < 16 ^ k → hexValue (hexDigits k n) ≡ n
+value-digits k n h = value-after k 0 n ∙ rw (mod-eq-of-lt h) (omega arith)
