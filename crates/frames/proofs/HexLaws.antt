@@ -89,17 +89,17 @@ mod-sixteen n q h =
     let r = n % q + q * (a % 16) in
     let z : a % 16 ≤ 15 = omega arith in
     let e : n ≡ r + q * 16 * (a / 16) =
-        sym (mod-add-div n q)
-        ∙ ap (λ (x : ℕ). n % q + q * x) (sym (mod-add-div a 16))
-        ∙ ap (λ (x : ℕ). n % q + x) (mul-add q (a % 16) (16 * (a / 16)) ∙ ap (λ (x : ℕ). q * (a % 16) + x) (sym (mul-assoc q 16 (a / 16))))
-        ∙ sym (add-assoc (n % q) (q * (a % 16)) (q * 16 * (a / 16))) in
+    sym (mod-add-div n q)
+    ∙ ap (λ (x : ℕ). n % q + q * x) (sym (mod-add-div a 16))
+    ∙ ap (λ (x : ℕ). n % q + x) (mul-add q (a % 16) (16 * (a / 16)) ∙ ap (λ (x : ℕ). q * (a % 16) + x) (sym (mul-assoc q 16 (a / 16))))
+    ∙ sym (add-assoc (n % q) (q * (a % 16)) (q * 16 * (a / 16))) in
     let small : r < q * 16 = omega (arith, mod-lt n h, mul-le-mul-left q z) in
     ap (λ (x : ℕ). x % (q * 16)) e ∙ add-mul-mod-self-left r (q * 16) (a / 16) ∙ mod-eq-of-lt small
 
 regroup : (v d q r : ℕ) → (v * 16 + d) * q + r ≡ v * (q * 16) + (r + q * d)
 regroup v d q r =
     let e : (v * 16 + d) * q ≡ v * (q * 16) + q * d =
-        add-mul (v * 16) d q ∙ ap (λ (x : ℕ). x + d * q) (mul-assoc v 16 q ∙ ap (λ (x : ℕ). v * x) (mul-comm 16 q)) ∙ ap (λ (x : ℕ). v * (q * 16) + x) (mul-comm d q) in
+    add-mul (v * 16) d q ∙ ap (λ (x : ℕ). x + d * q) (mul-assoc v 16 q ∙ ap (λ (x : ℕ). v * x) (mul-comm 16 q)) ∙ ap (λ (x : ℕ). v * (q * 16) + x) (mul-comm d q) in
     rw e (omega arith)
 
 value-after : (k v n : ℕ) → valueAfter v (hexDigits k n) ≡ v * 16 ^ k + n % 16 ^ k

@@ -57,9 +57,9 @@ held-more line piece bytes len n m from to en em h hp e =
     let w : k ≡ length (take n line) + (k - n) = omega arith in
     rw (e, take-paste line n d m (omega arith) (simp length-drop (omega arith)), clipped line len n en)
     (ap (λ (y : List ℕ). take n line ++ y) (sym (take-min d (k - n) (to - from) m em))
-      ∙ sym (ap (λ (z : List ℕ). take k (take n line ++ z)) (ap (λ (j : ℕ). slice from j piece) t ∙ slice-take from (to - from) piece)
-        ∙ ap (λ (j : ℕ). take j (take n line ++ take (to - from) d)) w
-        ∙ take-append-add (take n line) (take (to - from) d) (k - n)))
+    ∙ sym (ap (λ (z : List ℕ). take k (take n line ++ z)) (ap (λ (j : ℕ). slice from j piece) t ∙ slice-take from (to - from) piece)
+    ∙ ap (λ (j : ℕ). take j (take n line ++ take (to - from) d)) w
+    ∙ take-append-add (take n line) (take (to - from) d) (k - n)))
 
 -- ---- well-formed lines
 

@@ -48,7 +48,7 @@ run-append-output s (b ∷ xs) ys = go (ℕ-discrete b newline) (λ t. run-appen
     go (yes e) ih =
         rw (run-newline s b (xs ++ ys) e, run-newline s b xs e)
         (ap (λ (o : List ℕ). answerTo s true ++ o) (ih (nextLine s))
-          ∙ sym (append-assoc (answerTo s true) (run (nextLine s) xs .output) (run (run (nextLine s) xs .state) ys .output)))
+        ∙ sym (append-assoc (answerTo s true) (run (nextLine s) xs .output) (run (run (nextLine s) xs .state) ys .output)))
     go (no e) ih = rw (run-byte s b (xs ++ ys) e, run-byte s b xs e) (ih (hold s (b ∷ [])))
 
 -- ---- a line
@@ -61,12 +61,12 @@ line-ended s (b ∷ bs) h = go (ℕ-discrete b newline) h (line-ended (hold s (b
   where
     go : Dec (b ≡ newline) → beforeNewline (b ∷ bs) < suc (length bs)
         → (beforeNewline bs < length bs
-          → (lineLength bs ≡ beforeNewline bs + 1)
-            × (run (hold s (b ∷ [])) (take (lineLength bs) bs)
-              ≡ record { state = nextLine (hold (hold s (b ∷ [])) (take (beforeNewline bs) bs)); output = answerTo (hold (hold s (b ∷ [])) (take (beforeNewline bs) bs)) true }))
+        → (lineLength bs ≡ beforeNewline bs + 1)
+        × (run (hold s (b ∷ [])) (take (lineLength bs) bs)
+        ≡ record { state = nextLine (hold (hold s (b ∷ [])) (take (beforeNewline bs) bs)); output = answerTo (hold (hold s (b ∷ [])) (take (beforeNewline bs) bs)) true }))
         → (lineLength (b ∷ bs) ≡ beforeNewline (b ∷ bs) + 1)
-          × (run s (take (lineLength (b ∷ bs)) (b ∷ bs))
-            ≡ record { state = nextLine (hold s (take (beforeNewline (b ∷ bs)) (b ∷ bs))); output = answerTo (hold s (take (beforeNewline (b ∷ bs)) (b ∷ bs))) true })
+        × (run s (take (lineLength (b ∷ bs)) (b ∷ bs))
+        ≡ record { state = nextLine (hold s (take (beforeNewline (b ∷ bs)) (b ∷ bs))); output = answerTo (hold s (take (beforeNewline (b ∷ bs)) (b ∷ bs))) true })
     go (yes e) h ih =
         let q = eq-eqb b newline e in
         (rw q, rw q (rw (run-newline s b [] e, append-nil (answerTo s true), answer-hold s true, next-hold s)))
@@ -130,9 +130,9 @@ taken-line s (b ∷ bs) room e = go (ℕ-discrete b newline) (taken-line (hold s
   where
     go : Dec (b ≡ newline)
         → taken (hold s (b ∷ [])) bs room
-            ≡ lineLength bs + taken (run (hold s (b ∷ [])) (take (lineLength bs) bs) .state) (drop (lineLength bs) bs) (room - length (run (hold s (b ∷ [])) (take (lineLength bs) bs) .output))
+        ≡ lineLength bs + taken (run (hold s (b ∷ [])) (take (lineLength bs) bs) .state) (drop (lineLength bs) bs) (room - length (run (hold s (b ∷ [])) (take (lineLength bs) bs) .output))
         → taken s (b ∷ bs) room
-            ≡ lineLength (b ∷ bs) + taken (run s (take (lineLength (b ∷ bs)) (b ∷ bs)) .state) (drop (lineLength (b ∷ bs)) (b ∷ bs)) (room - length (run s (take (lineLength (b ∷ bs)) (b ∷ bs)) .output))
+        ≡ lineLength (b ∷ bs) + taken (run s (take (lineLength (b ∷ bs)) (b ∷ bs)) .state) (drop (lineLength (b ∷ bs)) (b ∷ bs)) (room - length (run s (take (lineLength (b ∷ bs)) (b ∷ bs)) .output))
     go (yes q) ih = let z = eq-eqb b newline q in rw (e, z) (rw (run-newline s b [] q, append-nil (answerTo s true)) (omega arith))
     go (no q) ih = let z = ne-eqb b newline q in rw (e, z, ih) (rw (run-byte s b (take (lineLength bs) bs) q) (omega arith))
 
@@ -164,7 +164,7 @@ module _ {s : State} {piece before after : List ℕ} {t : State} {used made : �
           state = f .state ∙ sym (run-append-state s x y ∙ ap (λ (r : Ran). r .state) q);
           output = rw (run-append-output s x y, q) (record {
             stored = f .output .stored ∙ ap (λ (a : List ℕ). sets a made (run t y .output)) (o .stored) ∙ ap (λ (i : ℕ). sets (sets before 0 (run s x .output)) i (run t y .output)) (o .moved)
-              ∙ sym (sets-append before 0 (run s x .output) (run t y .output));
+                ∙ sym (sets-append before 0 (run s x .output) (run t y .output));
             moved = omega (arith, o .moved, f .output .moved, length-append (run s x .output) (run t y .output));
           });
         });

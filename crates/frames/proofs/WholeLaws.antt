@@ -52,14 +52,14 @@ first-then l ls = go (wellFormed firstDigits l)
 
     go : (w : Bool)
         → cond (eqb (cond w a 12) 0) [] (answerLine (cond w a 12) 0 []) ++ remaining true (cond w (parametersOf (l .bytes)) noParameters) ls
-            ≡ cond (eqb (cond w a 12) 0) (flatMap (blockLine (parametersOf (l .bytes))) ls) (answerLine (cond w a 12) 0 [])
+        ≡ cond (eqb (cond w a 12) 0) (flatMap (blockLine (parametersOf (l .bytes))) ls) (answerLine (cond w a 12) 0 [])
     go true = good (eqb a 0)
     go false = append-nil _
 
 -- a line, then the rest
 line-then : (started : Bool) (p : Params) (full : List ℕ) (ls : List Line)
     → answerTo (record { started = started; params = p; held = full }) true ++ remaining true (nextLine (record { started = started; params = p; held = full }) .params) ls
-        ≡ remaining started p (record { bytes = full; ended = true } ∷ ls)
+    ≡ remaining started p (record { bytes = full; ended = true } ∷ ls)
 unfolding answerTo nextLine remaining flatMap
 line-then true p full ls = go (goodParameters p)
   where
@@ -72,31 +72,31 @@ line-then false p full ls = first-then (record { bytes = full; ended = true }) l
 -- the bytes that are left, after a line of which `full` has come and what is held of it is held
 rest : (input : List ℕ) (started : Bool) (p : Params) (full : List ℕ)
     → run (record { started = started; params = p; held = take mostHeld full }) input .output
-      ++ ending (run (record { started = started; params = p; held = take mostHeld full }) input .state)
-        ≡ remaining started p (linesAfter full input)
+    ++ ending (run (record { started = started; params = p; held = take mostHeld full }) input .state)
+    ≡ remaining started p (linesAfter full input)
 unfolding hold nextLine
 rest [] started p full = last-line started p full
 rest (b ∷ bs) started p full = go (ℕ-discrete b newline) (λ q. rest bs true q []) (rest bs started p (full ++ (b ∷ [])))
   where
     go : Dec (b ≡ newline)
         → ((q : Params) → run (record { started = true; params = q; held = [] }) bs .output ++ ending (run (record { started = true; params = q; held = [] }) bs .state)
-          ≡ remaining true q (linesAfter [] bs))
+        ≡ remaining true q (linesAfter [] bs))
         → run (record { started = started; params = p; held = take mostHeld (full ++ (b ∷ [])) }) bs .output
-          ++ ending (run (record { started = started; params = p; held = take mostHeld (full ++ (b ∷ [])) }) bs .state)
-          ≡ remaining started p (linesAfter (full ++ (b ∷ [])) bs)
+        ++ ending (run (record { started = started; params = p; held = take mostHeld (full ++ (b ∷ [])) }) bs .state)
+        ≡ remaining started p (linesAfter (full ++ (b ∷ [])) bs)
         → run (record { started = started; params = p; held = take mostHeld full }) (b ∷ bs) .output
-          ++ ending (run (record { started = started; params = p; held = take mostHeld full }) (b ∷ bs) .state)
-          ≡ remaining started p (linesAfter full (b ∷ bs))
+        ++ ending (run (record { started = started; params = p; held = take mostHeld full }) (b ∷ bs) .state)
+        ≡ remaining started p (linesAfter full (b ∷ bs))
     go (yes e) ends goes =
         let s : State = record { started = started; params = p; held = take mostHeld full } in
         let t : State = record { started = started; params = p; held = full } in
         let n = nextLine s in
         rw (run-newline s b bs e, eq-eqb b newline e)
         (append-assoc (answerTo s true) (run n bs .output) (ending (run n bs .state))
-          ∙ ap (λ (l : List ℕ). answerTo s true ++ l) (ends (n .params))
-          ∙ ap (λ (l : List ℕ). l ++ remaining true (n .params) (linesAfter [] bs)) (answer-clip started p full true)
-          ∙ ap (λ (x : State). answerTo t true ++ remaining true (x .params) (linesAfter [] bs)) (next-clip started p full)
-          ∙ line-then started p full (linesAfter [] bs))
+        ∙ ap (λ (l : List ℕ). answerTo s true ++ l) (ends (n .params))
+        ∙ ap (λ (l : List ℕ). l ++ remaining true (n .params) (linesAfter [] bs)) (answer-clip started p full true)
+        ∙ ap (λ (x : State). answerTo t true ++ remaining true (x .params) (linesAfter [] bs)) (next-clip started p full)
+        ∙ line-then started p full (linesAfter [] bs))
     go (no e) ends goes =
         let s : State = record { started = started; params = p; held = take mostHeld full } in
         rw (run-byte s b bs e, ne-eqb b newline e, clip-append mostHeld full (b ∷ [])) goes

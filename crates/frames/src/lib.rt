@@ -194,7 +194,11 @@ fn feed_line(s: Partial, piece: &[u8], from: usize, out: &mut [u8], at: usize) -
 fn has_room(room: usize, made: usize) -> bool
     ensures { λ r. ⌜ r ≡ leb longestLine (room - made) ⌝ }
 {
-    if made < room { 263 <= room - made } else { false }
+    if made < room {
+        263 <= room - made
+    } else {
+        false
+    }
 }
 
 // A piece of the input: its bytes are taken as long as there is room for the longest line, and what they give is put at the start of the room.

@@ -41,9 +41,10 @@ loop-again c =
     let l = c .before .before .before .before .before .before .before .before .loop in
     let p = c .before .before .before .before .before .before .before .before .before .before .before .args .piece .now in
     let f = c .before .before .before .feed-line in
-    let r : length (l .out) ≡ length (c .before .before .before .before .before .before .before .before .before .before .before .args .out .now) = l .inv .1 in
-    (going-line (l .inv .0) (rw r at (sym (c .before .before .before .before .before .before .has-room .ensures) ∙ c .before .before .before .before .before .if1 .taken)) (f .ensures .0) (f .ensures .1) (omega (arith, f .ensures .1, line-within (drop (l .used) p), length-drop (l .used) p, c .before .before .before .before .before .before .before .loop-test .taken)),
-      f .kept .1 .1 .1 .0 ∙ l .inv .1)
+    let r : length (l .out) ≡ length (c .before .before .before .before .before .before .before .before .before .before .before .args .out .now) = l .inv .1 in (
+      going-line (l .inv .0) (rw r at (sym (c .before .before .before .before .before .before .has-room .ensures) ∙ c .before .before .before .before .before .if1 .taken)) (f .ensures .0) (f .ensures .1) (omega (arith, f .ensures .1, line-within (drop (l .used) p), length-drop (l .used) p, c .before .before .before .before .before .before .before .loop-test .taken)),
+      f .kept .1 .1 .1 .0 ∙ l .inv .1,
+    )
 
 same-length : tie.Need-same-length Inv-loop μ-loop
 same-length c = search needs

@@ -35,11 +35,13 @@ returns c =
     let h = c .before .before .before .before .before .before .hold-bytes .ensures in
     let r = line-ended (stateOf (a .s)) d (simp length-drop (omega (arith, c .before .before .before .before .before .if1 .taken))) in
     let t = part (a .piece .now) (a .from) (c .before .before .before .before .before .before .before .newline-at .result) (beforeNewline d) (n .0) in
-    let q = rw t at h in
-    (record {
+    let q = rw t at h in (
+      record {
         state = c .next-line .ensures ∙ rw q (sym (ap (λ (x : Ran). x .state) (r .1)));
         output = rw (r .1, ← q) (c .before .before .before .answer-line .ensures);
-      }, omega arith)
+      },
+      omega arith,
+    )
 
 returns-2 : tie.Need-returns-2
 returns-2 c =
@@ -49,11 +51,13 @@ returns-2 c =
     let h = c .before .hold-bytes .ensures in
     let r = line-rest (stateOf (a .s)) d (simp length-drop (omega arith)) (simp length-drop (omega (arith, c .if1 .left))) in
     let t = part (a .piece .now) (a .from) (c .before .before .newline-at .result) (beforeNewline d) (n .0) in
-    let q = rw t at h in
-    (record {
+    let q = rw t at h in (
+      record {
         state = q ∙ sym (ap (λ (x : Ran). x .state) (r .1));
         output = rw (r .1) (put-none _ _);
-      }, omega arith)
+      },
+      omega arith,
+    )
 
 pub feed-line-spec : {M : Type 1} → statement M
 feed-line-spec =

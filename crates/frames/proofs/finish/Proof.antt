@@ -27,9 +27,11 @@ same-length c = search needs
 
 returns-3 : tie.Need-returns-3
 returns-3 c =
-    let a = c .before .before .answer-line in
-    (sym (le-leb 263 _ (c .before .before .before .before .before .before .if1 .left)), rw (sym (c .before .before .before .before .before .nothing-left .ensures) ∙ c .before .before .before .before .if2 .left) (a .ensures),
-      omega (arith, a .ensures .moved, answer-length (stateOf (c .before .before .before .before .before .before .before .before .args .s)) false, a .kept .1 .1 .0, c .before .before .before .before .before .before .if1 .left))
+    let a = c .before .before .answer-line in (
+      sym (le-leb 263 _ (c .before .before .before .before .before .before .if1 .left)),
+      rw (sym (c .before .before .before .before .before .nothing-left .ensures) ∙ c .before .before .before .before .if2 .left) (a .ensures),
+      omega (arith, a .ensures .moved, answer-length (stateOf (c .before .before .before .before .before .before .before .before .args .s)) false, a .kept .1 .1 .0, c .before .before .before .before .before .before .if1 .left),
+    )
 
 pub finish-spec : {M : Type 1} → statement M
 finish-spec =

@@ -50,9 +50,12 @@ loop-again c =
     let a = c .before .before .before .before .before .args in
     let l = c .before .before .before .loop in
     let d = c .digit-value .result in
-    let e : l .i + 1 - a .from ≡ suc (l .i - a .from) = omega arith in
-    (rw (c .digit-value .ensures .0) (value-turn (a .bytes .now) (l .v) (l .i) (a .to) (omega arith) (omega arith) ∙ l .inv .0),
-      omega arith, omega arith, rw e (digit-more (l .v) d (l .i - a .from) (l .inv .3) (c .digit-value .ensures .1)))
+    let e : l .i + 1 - a .from ≡ suc (l .i - a .from) = omega arith in (
+      rw (c .digit-value .ensures .0) (value-turn (a .bytes .now) (l .v) (l .i) (a .to) (omega arith) (omega arith) ∙ l .inv .0),
+      omega arith,
+      omega arith,
+      rw e (digit-more (l .v) d (l .i - a .from) (l .inv .3) (c .digit-value .ensures .1)),
+    )
 
 returns : tie.Need-returns Inv-loop μ-loop
 returns c =
