@@ -1,5 +1,6 @@
 //! The static library's FPC writer and reader compared with the reference's, on many inputs.
 
+mod by_hand;
 #[path = "../common/mod.rs"]
 mod common;
 mod compare;

@@ -1,6 +1,7 @@
 //! The static library's slot calls compared with the reference's, on many inputs.
 
 mod blocks;
+mod by_hand;
 #[path = "../common/mod.rs"]
 mod common;
 mod compare;

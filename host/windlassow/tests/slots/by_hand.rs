@@ -1,0 +1,129 @@
+//! Outcomes worked out by hand from document 01, on the library alone.
+
+use windlassow::{Params, read, slot_count, store};
+
+const ONE: u32 = 0x3F80_0000;
+
+/// The bits of a text of 0s and 1s, spaces left out.
+fn bits(text: &str) -> Vec<u8> {
+    text.bytes().filter(|&digit| digit != b' ').map(|digit| digit - b'0').collect()
+}
+
+/// Stores in slot 0 of an archive of ones. The count is the length of this code, and the slot is the code and then
+/// zeros. Gives the archive.
+fn stores(p: Params, words: &[u32], code: &str) -> Vec<u8> {
+    let width = p.width() as usize;
+    let mut archive = vec![0xFF; width.div_ceil(8)];
+    let mut expected = bits(code);
+    assert_eq!(store(p, &mut archive, 0, words), Ok(expected.len()), "{words:x?}");
+    expected.resize(width, 0);
+    let slot: Vec<u8> = (0..width).map(|t| archive[t / 8] >> (t % 8) & 1).collect();
+    assert_eq!(slot, expected, "{words:x?}");
+    archive
+}
+
+/// The same, and the slot reads as these words.
+fn stores_and_reads(p: Params, words: &[u32; 4], code: &str, back: [i32; 4]) {
+    let archive = stores(p, words, code);
+    let mut read_back = [9; 4];
+    assert_eq!(read(p, &archive, 0, &mut read_back), Ok(4));
+    assert_eq!(read_back.map(|word| word as i32), back, "width {} planes {}", p.width(), p.planes());
+}
+
+/// Four equal integers c have the coefficients c 0 0 0, so the code shows P8: -1, 1, 2, -2 are 3, 1, 6, 2.
+#[test]
+fn equal_integers_of_p8() {
+    let p = Params::from_numbers(0, 1, 1, 32, 64);
+    let zeros = |count| "0".repeat(count);
+    stores(p, &[-1i32 as u32; 4], &format!("11111 {} 110 10", zeros(30)));
+    stores(p, &[1; 4], &format!("11111 {} 110", zeros(31)));
+    stores(p, &[2; 4], &format!("01111 {} 110 10", zeros(29)));
+    stores(p, &[-2i32 as u32; 4], &format!("01111 {} 110", zeros(30)));
+}
+
+/// The value of place i + 4j is i, then j. Its one coefficient other than 0 is a 1 at place 1, the second in order, or at
+/// place 4, the third.
+#[test]
+fn columns_are_next_to_each_other() {
+    let p = Params::from_numbers(0, 2, 1, 32, 64);
+    let zeros = "0".repeat(31);
+    let block = |value: fn(u32) -> u32| (0..16).map(value).collect::<Vec<u32>>();
+    stores(p, &block(|place| place % 4), &format!("11111 {zeros} 1010"));
+    stores(p, &block(|place| place / 4), &format!("11111 {zeros} 10010"));
+}
+
+/// 1 2 3 4 lifts to 2 -1 0 0, with a half of -1 on the way; in negabinary 6 3 0 0. The planes 31 to 3 are empty, then
+/// come 1 0 0 0, 1 1 0 0 and 0 1 0 0.
+#[test]
+fn lossy_integers_cut_by_planes_and_by_the_budget() {
+    let p = |planes, width| Params::from_numbers(0, 1, 0, planes, width);
+    let block = [1, 2, 3, 4];
+    let empty = "0".repeat(29);
+    stores_and_reads(p(32, 64), &block, &format!("{empty} 110 1110 010"), [0, 2, 2, 4]);
+    stores_and_reads(p(31, 64), &block, &format!("{empty} 110 1110"), [-1, 1, 3, 5]);
+    stores_and_reads(p(30, 64), &block, &format!("{empty} 110"), [4, 4, 4, 4]);
+    stores_and_reads(p(32, 36), &block, &format!("{empty} 110 1110"), [-1, 1, 3, 5]);
+    // The last test is not read, and would have been 0.
+    stores_and_reads(p(32, 35), &block, &format!("{empty} 110 111"), [-1, 1, 3, 5]);
+    // A scan cut before its one sets no bit.
+    stores_and_reads(p(32, 34), &block, &format!("{empty} 110 11"), [2, 2, 2, 2]);
+    stores_and_reads(p(32, 33), &block, &format!("{empty} 110 1"), [2, 2, 2, 2]);
+    stores_and_reads(p(32, 32), &block, &format!("{empty} 110"), [4, 4, 4, 4]);
+}
+
+/// Four times 1.0: e is 128, the integers are 2^29, the planes as in P5. The head's 9 bits are part of the width.
+#[test]
+fn lossy_floats_have_a_head_of_9_bits() {
+    let p = |planes, width| Params::from_numbers(1, 1, 0, planes, width);
+    let ones = [ONE as i32; 4];
+    stores_and_reads(p(3, 64), &[ONE; 4], "1 00000001 0 110 10", ones);
+    stores_and_reads(p(32, 16), &[ONE; 4], "1 00000001 0 110 10 0", ones);
+    stores_and_reads(p(32, 64), &[ONE; 4], &format!("1 00000001 0 110 10 {}", "0".repeat(49)), ones);
+    stores_and_reads(p(32, 64), &[0x8000_0000, 0, 0, 0x8000_0000], "0", [0; 4]);
+    // After a first bit 0 the rest is not looked at.
+    let mut words = [9; 4];
+    assert_eq!(read(p(32, 16), &[0xFE, 0xFF], 0, &mut words), Ok(4));
+    assert_eq!(words, [0; 4]);
+}
+
+/// Beside 1.0, for which m = 1, a value must be a whole multiple of 2^-29.
+#[test]
+fn the_form_with_e_is_for_whole_multiples() {
+    let p = Params::from_numbers(1, 1, 1, 32, 146);
+    let form = |words: &[u32; 4]| {
+        let mut archive = [0; 19];
+        store(p, &mut archive, 0, words).map(|_| archive[0] & 3)
+    };
+    let power = |exponent: i32| ((127 + exponent) as u32) << 23;
+    assert_eq!(form(&[ONE, power(-29), 0, 0]), Ok(0b01));
+    assert_eq!(form(&[ONE, power(-29) | 1 << 31, 0, 0]), Ok(0b01));
+    assert_eq!(form(&[ONE, power(-30), 0, 0]), Ok(0b11));
+    assert_eq!(form(&[ONE, power(-28) | 1 << 22, 0, 0]), Ok(0b01));
+    assert_eq!(form(&[ONE, power(-29) | 1 << 22, 0, 0]), Ok(0b11));
+    assert_eq!(form(&[ONE, 0x8000_0000, 0, 0]), Ok(0b11));
+    assert_eq!(form(&[ONE, 0x7F80_0000, 0, 0]), Ok(0b11));
+    assert_eq!(form(&[ONE, 0x7FC0_0000, 0, 0]), Ok(0b11));
+    // Every subnormal number is a multiple of 2^-149, and 2^(m-30) is 2^-156.
+    assert_eq!(form(&[1, 0x807F_FFFF, 0, 0]), Ok(0b01));
+}
+
+/// Four times -0: 0x80000000 xor 0x7FFFFFFF is -1, in negabinary 3.
+#[test]
+fn minus_zeros_are_flipped_to_minus_ones() {
+    let p = Params::from_numbers(1, 1, 1, 32, 146);
+    stores(p, &[0x8000_0000; 4], &format!("11 11111 {} 110 10", "0".repeat(30)));
+}
+
+#[test]
+fn slot_counts() {
+    let count = |dimension, width, bytes| {
+        let p = Params::from_numbers(0, dimension, 1, 32, width);
+        slot_count(p, &vec![0; bytes]).map_err(|refusal| refusal.number())
+    };
+    // W = 0 stands for 8N.
+    assert_eq!(count(1, 0, 11), Ok(2));
+    assert_eq!(count(2, 0, 47), Ok(2));
+    assert_eq!(count(1, 17, 65_536), Ok(30_840));
+    assert_eq!(count(1, 1024, 127), Ok(0));
+    assert_eq!(count(1, 17, 65_537), Err(6));
+}
