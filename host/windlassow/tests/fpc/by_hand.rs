@@ -36,6 +36,15 @@ fn a_tie_takes_the_fcm_side() {
     is_stream(16, &[7, 7, 7], &[0x67, 0x07, 0x76, 0x00], &[(0, 7)], &[(0, 0)]);
 }
 
+/// The patterns of 100.0, 101.0 and 101.0: after the first two h is 9. F[9] predicts the third exactly and F[0] does not;
+/// dfcm expects 102.0.
+#[test]
+fn fcm_predicts_from_the_place_of_its_hash() {
+    let (v, w) = (0x4059_0000_0000_0000, 0x4059_4000_0000_0000);
+    let stream = [&[0x00, 0, 0, 0, 0, 0, 0, 0x59, 0x40][..], &[0, 0, 0, 0, 0, 0x40, 0x59, 0x40, 0x76, 0x00]];
+    is_stream(16, &[v, w, w], &stream.concat(), &[(0, v), (9, w)], &[]);
+}
+
 /// The numbers of leading zero bytes 0 to 7 of a first double, whose xor is the double itself. Four is written as three.
 #[test]
 fn every_count_of_leading_zero_bytes() {

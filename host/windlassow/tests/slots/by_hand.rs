@@ -71,6 +71,23 @@ fn lossy_integers_cut_by_planes_and_by_the_budget() {
     stores_and_reads(p(32, 32), &block, &format!("{empty} 110"), [4, 4, 4, 4]);
 }
 
+/// 0 0 0 16 lifts to 4 -5 -4 2, in negabinary 4 15 12 6. No coefficient is 0, so each step of reading matters. Here it
+/// gives the block back.
+#[test]
+fn a_lossy_block_that_comes_back() {
+    let p = Params::from_numbers(0, 1, 0, 32, 64);
+    let code = format!("{} 101110 1111 0101 0100", "0".repeat(28));
+    stores_and_reads(p, &[0, 0, 0, 16], &code, [0, 0, 0, 16]);
+}
+
+/// 0 1 5 18 has the differences 0 1 3 6, in negabinary 0 1 7 26.
+#[test]
+fn differences_up_to_the_third() {
+    let p = Params::from_numbers(0, 1, 1, 32, 64);
+    let code = format!("11111 {} 1000 0001 0010 0011 0110", "0".repeat(27));
+    stores_and_reads(p, &[0, 1, 5, 18], &code, [0, 1, 5, 18]);
+}
+
 /// Four times 1.0: e is 128, the integers are 2^29, the planes as in P5. The head's 9 bits are part of the width.
 #[test]
 fn lossy_floats_have_a_head_of_9_bits() {
