@@ -55,6 +55,14 @@ digit-odd zero h = refl
 digit-odd (suc zero) h = refl
 digit-odd (suc (suc n)) h = absurd (omega arith)
 
+pub digit-lt : (b : Bool) → digit b < 2
+digit-lt true = omega arith
+digit-lt false = omega arith
+
+pub digit-bits : (b : Bool) → numberBits 1 (digit b) ≡ b ∷ []
+digit-bits true = refl
+digit-bits false = refl
+
 -- a number is read back from its bits, and bits from their number
 pub number-back : (k n : ℕ) → n < 2 ^ k → numberOf (numberBits k n) ≡ n
 number-back zero n h = sym (lt-one h)

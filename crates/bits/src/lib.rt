@@ -47,7 +47,7 @@ fn with_digit(n: u32, b: bool) -> u32
     requires { ⌜ n < 2 ^ 31 ⌝ }
     ensures { λ r. ⌜ r ≡ digit b + 2 * n ⌝ }
 {
-    if b { 2 * n + 1 } else { 2 * n }
+    2 * n + digit_of(b)
 }
 
 // The number that stands in the `count` bits from `at` on.
@@ -128,16 +128,19 @@ pub fn put_bits(buf: &mut [u8], out: Cursor, limit: usize, v: u32, count: usize)
     }
 }
 
-// Writes one bit.
+// The number of a single bit.
+fn digit_of(b: bool) -> u32
+    ensures { λ r. ⌜ r ≡ digit b ⌝ }
+{
+    b as u32
+}
+
+// Writes one bit, with no branch on it.
 pub fn put(buf: &mut [u8], out: Cursor, limit: usize, b: bool) -> Cursor
     requires { ⌜ (limit ≤ 8 * length (now buf)) × (out .at < 2 ^ 32) ⌝ }
     ensures { λ r. ⌜ Written (bitsOf (now (buf .entry))) (bitsOf (now (buf .exit))) (out .at) limit (b ∷ []) (r .at) ⌝ }
 {
-    if b {
-        put_bits(buf, out, limit, 1, 1)
-    } else {
-        put_bits(buf, out, limit, 0, 1)
-    }
+    put_bits(buf, out, limit, digit_of(b), 1)
 }
 
 // Writes the `count` lowest bits of v, lowest first.
