@@ -59,6 +59,10 @@ pub digit-lt : (b : Bool) → digit b < 2
 digit-lt true = omega arith
 digit-lt false = omega arith
 
+pub digit-times : (b : Bool) (n : ℕ) → digit b * n ≤ n
+digit-times true n = omega arith
+digit-times false n = omega arith
+
 pub digit-bits : (b : Bool) → numberBits 1 (digit b) ≡ b ∷ []
 digit-bits true = refl
 digit-bits false = refl

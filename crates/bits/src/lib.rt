@@ -129,7 +129,7 @@ pub fn put_bits(buf: &mut [u8], out: Cursor, limit: usize, v: u32, count: usize)
 }
 
 // The number of a single bit.
-fn digit_of(b: bool) -> u32
+pub fn digit_of(b: bool) -> u32
     ensures { λ r. ⌜ r ≡ digit b ⌝ }
 {
     b as u32
