@@ -73,6 +73,13 @@ number-back zero n h = sym (lt-one h)
 number-back (suc k) n h =
     rw (number-back k (n / 2) (omega (arith, pow-suc 2 k)), digit-odd (n % 2) (omega arith)) (omega arith)
 
+pub number-low : (k n : ℕ) → numberOf (numberBits k n) ≡ n % 2 ^ k
+number-low k n = ap numberOf (sym (numberBits-mod k n)) ∙ number-back k (n % 2 ^ k) (mod-lt n (pow-pos k))
+
+pub numberOf-append : (xs ys : List Bool) → numberOf (xs ++ ys) ≡ numberOf xs + numberOf ys * 2 ^ length xs
+numberOf-append [] ys = omega arith
+numberOf-append (x ∷ xs) ys = rw (numberOf-append xs ys, pow-suc 2 (length xs)) (omega arith)
+
 pub numberOf-lt : (bs : List Bool) → numberOf bs < 2 ^ length bs
 numberOf-lt [] = omega arith
 numberOf-lt (true ∷ bs) = rw (pow-suc 2 (length bs)) (omega (arith, numberOf-lt bs))

@@ -89,6 +89,30 @@ fn moved(x: u32, k: usize) -> u32
     x * power(k)
 }
 
+// The number in `count` bits, all within the byte of `at`, by one read of that byte.
+fn get_part(buf: &[u8], at: usize, count: usize) -> u32
+    requires { ⌜ (at % 8 + count ≤ 8) × (at + count ≤ 8 * length (now buf)) ⌝ }
+    ensures { λ r. ⌜ r ≡ numberOf (slice at (at + count) (bitsOf (now (buf .entry)))) ⌝ }
+{
+    if 0 < count {
+        let i = at / 8;
+        low(wide(buf[i]) >> (at % 8), count)
+    } else {
+        0
+    }
+}
+
+// The number in the `count` bits from `at` on, at most eight, by at most two reads of a byte.
+pub fn get_bits(buf: &[u8], at: usize, count: usize) -> u32
+    requires { ⌜ (count ≤ 8) × (at + count ≤ 8 * length (now buf)) × (at < 2 ^ 32) ⌝ }
+    ensures { λ r. ⌜ r ≡ numberOf (slice at (at + count) (bitsOf (now (buf .entry)))) ⌝ }
+{
+    let first = least(count, 8 - at % 8);
+    let below = get_part(buf, at, first);
+    let above = get_part(buf, at + first, count - first);
+    below + moved(above, first)
+}
+
 // Byte b with the `count` bits from bit k on replaced by the lowest bits of v.
 fn with_bits(b: u8, k: usize, count: usize, v: u32) -> u8
     requires { ⌜ k + count ≤ 8 ⌝ }
@@ -174,10 +198,11 @@ pub fn same_bits(a: &[u8], at: usize, b: &[u8], from: usize, count: usize) -> bo
 {
     let mut i = 0;
     while i < count {
-        if get(a, at + i) != get(b, from + i) {
+        let part = least(count - i, 8);
+        if get_bits(a, at + i, part) != get_bits(b, from + i, part) {
             return false;
         }
-        i += 1;
+        i += part;
     }
     true
 }
