@@ -191,6 +191,34 @@ pub fn put_zeros(buf: &mut [u8], out: Cursor, limit: usize, count: usize) -> Cur
     put_number(buf, out, limit, 0, count)
 }
 
+// Stores `count` bytes from byte `start` on, which take the bits of `from` from `skip` on.
+fn copy_bytes(from: &[u8], skip: usize, buf: &mut [u8], start: usize, count: usize)
+    requires { ⌜ (skip + 8 * count ≤ 8 * length (now from)) × (start + count ≤ length (now buf)) × (skip + 8 * count < 2 ^ 32) × (start + count < 2 ^ 32) ⌝ }
+    ensures { λ _. ⌜ bitsOf (now (buf .exit)) ≡ sets (bitsOf (now (buf .entry))) (8 * start) (slice skip (skip + 8 * count) (bitsOf (now (from .entry)))) ⌝ }
+{
+    let mut i = 0;
+    while i < count {
+        let v = get_bits(from, skip + 8 * i, 8);
+        put_part(buf, 8 * (start + i), 8, v);
+        i += 1;
+    }
+}
+
+// Stores the first `count` bits of `from` from `at` on, one write for each byte.
+pub fn copy_bits(from: &[u8], buf: &mut [u8], at: usize, count: usize)
+    requires { ⌜ (count ≤ 8 * length (now from)) × (at + count ≤ 8 * length (now buf)) × (at + count < 2 ^ 32) ⌝ }
+    ensures { λ _. ⌜ bitsOf (now (buf .exit)) ≡ sets (bitsOf (now (buf .entry))) at (slice 0 (0 + count) (bitsOf (now (from .entry)))) ⌝ }
+{
+    let first = least(count, 8 - at % 8);
+    let v = get_bits(from, 0, first);
+    put_part(buf, at, first, v);
+    let bytes = (count - first) / 8;
+    copy_bytes(from, first, buf, (at + first) / 8, bytes);
+    let done = first + 8 * bytes;
+    let last = get_bits(from, done, count - done);
+    put_part(buf, at + done, count - done, last);
+}
+
 // Whether the `count` bits of a from `at` on are those of b from `from` on.
 pub fn same_bits(a: &[u8], at: usize, b: &[u8], from: usize, count: usize) -> bool
     requires { ⌜ (at + count ≤ 8 * length (now a)) × (from + count ≤ 8 * length (now b)) × (at + count < 2 ^ 32) × (from + count < 2 ^ 32) ⌝ }
