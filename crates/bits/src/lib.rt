@@ -94,12 +94,11 @@ fn get_part(buf: &[u8], at: usize, count: usize) -> u32
     requires { ⌜ (at % 8 + count ≤ 8) × (at + count ≤ 8 * length (now buf)) ⌝ }
     ensures { λ r. ⌜ r ≡ numberOf (slice at (at + count) (bitsOf (now (buf .entry)))) ⌝ }
 {
-    if 0 < count {
-        let i = at / 8;
-        low(wide(buf[i]) >> (at % 8), count)
-    } else {
-        0
+    if count == 0 {
+        return 0;
     }
+    let i = at / 8;
+    low(wide(buf[i]) >> (at % 8), count)
 }
 
 // The number in the `count` bits from `at` on, at most eight, by at most two reads of a byte.

@@ -59,7 +59,7 @@ loop-again c =
       search needs,
       call .put-part .kept .0 ∙ l .inv .1,
       copied-part bits (bitsOf (s .args .buf .now)) (8 * s .args .start) (s .args .skip) (8 * l .i) 8 (8 * (l .i + 1)) _ _
-      (omega (arith, length-bitsOf (s .args .from .now))) (omega arith) (omega arith) (l .inv .2) (got .get-bits .ensures) (call .put-part .ensures),
+          (omega (arith, length-bitsOf (s .args .from .now))) (omega arith) (omega arith) (l .inv .2) (got .get-bits .ensures) (call .put-part .ensures),
     )
 
 same-length : tie.Need-same-length Inv-loop μ-loop

@@ -8,6 +8,11 @@ use borrow.Author.Needs.{needs}
 use Rattle.bits.proofs.get_part.Statement.{statement}
 use Rattle.bits.proofs.get_part.Tie as tie
 
+returns : tie.Need-returns
+returns c =
+    let s = c .before .before in
+    sym (ap numberOf (slice-none (bitsOf (s .args .buf .now)) (s .args .at) (s .args .at + s .args .count) (omega arith)))
+
 shared-slice-read-wide : tie.Need-shared-slice-read-wide
 shared-slice-read-wide c = search needs
 
@@ -23,17 +28,12 @@ shr-low c = search needs
 low-requires : tie.Need-low-requires
 low-requires c κs = search needs
 
-returns : tie.Need-returns
-returns c =
-    let s = c .before .before .before .before .before in
-    rw (c .low .ensures, c .before .wide .ensures) (sym (part-number (s .args .buf .now) (s .args .at) (s .args .count) (omega arith) (s .pre .0)))
-
 returns-2 : tie.Need-returns-2
 returns-2 c =
-    let s = c .before .before in
-    sym (ap numberOf (slice-none (bitsOf (s .args .buf .now)) (s .args .at) (s .args .at + s .args .count) (omega arith)))
+    let s = c .before .before .before .before .before in
+    rw (c .low .ensures, c .before .wide .ensures) (sym (part-number (s .args .buf .now) (s .args .at) (s .args .count) (omega arith) (s .pre .0)))
 
 pub get-part-spec : {M : Type 1} → statement M
 get-part-spec =
     tie.close
-    (tie.spec shared-slice-read-wide wide-requires cast-low shr-low low-requires returns returns-2)
+    (tie.spec returns shared-slice-read-wide wide-requires cast-low shr-low low-requires returns-2)

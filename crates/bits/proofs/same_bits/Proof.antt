@@ -68,9 +68,9 @@ loop-again c =
     let first = c .before .before .get-bits in (
       search needs,
       l .inv .1
-      ∙ same-next (bitsOf (s .args .a .now)) (bitsOf (s .args .b .now)) (s .args .at) (s .args .from) (l .i) (part .least .result) (s .args .count)
-      (omega (arith, part .least .ensures)) (omega (arith, length-bitsOf (s .args .a .now))) (omega (arith, length-bitsOf (s .args .b .now)))
-      (rw (← (first .ensures), ← (c .before .get-bits2 .ensures)) (omega arith)),
+          ∙ same-next (bitsOf (s .args .a .now)) (bitsOf (s .args .b .now)) (s .args .at) (s .args .from) (l .i) (part .least .result) (s .args .count)
+          (omega (arith, part .least .ensures)) (omega (arith, length-bitsOf (s .args .a .now))) (omega (arith, length-bitsOf (s .args .b .now)))
+          (rw (← (first .ensures), ← (c .before .get-bits2 .ensures)) (omega arith)),
     )
 
 returns-2 : tie.Need-returns-2 Inv-loop μ-loop
