@@ -120,15 +120,19 @@ fn verbatim(words: &[u32], k: u32, n: usize, buf: &mut [u8], out: Cursor, limit:
     next
 }
 
-// Plane k: its n first bits as they are, then a test.
+// Plane k: its n first bits as they are, then a test, if places are left.
 fn put_plane(words: &[u32], k: u32, n: usize, buf: &mut [u8], out: Cursor, limit: usize) -> Coder
     requires { ⌜ (k < 32) × (n ≤ length (now words)) × (limit ≤ 8 * length (now buf)) × (out .at + 2 * length (now words) < 2 ^ 32) ⌝ }
     ensures { λ r. ⌜ Advanced (bitsOf (now (buf .entry))) (bitsOf (now (buf .exit))) (out .at) limit
         (planeCode n (plane k (now (words .entry)))) (planeNext n (plane k (now (words .entry)))) (r .out .at) (r .n) ⌝ }
 {
-    let end = ones_end(words, k);
     let next = verbatim(words, k, n, buf, out, limit);
-    test(words, k, end, n, buf, next, limit)
+    if n < words.len() {
+        let end = ones_end(words, k);
+        test(words, k, end, n, buf, next, limit)
+    } else {
+        Coder { out: next, n }
+    }
 }
 
 // The planes from the top one downward, p of them.
