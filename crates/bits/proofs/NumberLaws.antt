@@ -8,7 +8,7 @@ use native.Mathlib.Omega.{arith}
 use lib.Dec.{eqb}
 use lib.Arith.{lt-one, digits-lt}
 use lib.Bits.{block-half, block-odd}
-use lib.ListN.{length, getD, take, replicate, length-append}
+use lib.ListN.{length, getD, take, length-append}
 use lib.Pow.{shr-shr, shr-lt, split, high, pow-pos, pow-add}
 use lib.Seq.{sets, sets-eq, take-append-seam, drop-append-add, drop-at}
 use Rattle.bits.specs.Stream.{bit, digit, numberBits, numberOf, withBits}
@@ -34,10 +34,6 @@ numberBits-low (suc k) a r = rw (block-odd a k r, block-half a k r, numberBits-l
 
 pub numberBits-mod : (k n : ℕ) → numberBits k (n % 2 ^ k) ≡ numberBits k n
 numberBits-mod k n = sym (numberBits-low k (n / 2 ^ k) (n % 2 ^ k)) ∙ ap (numberBits k) (split n k)
-
-pub numberBits-zero : (k : ℕ) → numberBits k 0 ≡ replicate k false
-numberBits-zero zero = refl
-numberBits-zero (suc k) = ap {B = List Bool} (λ l. false ∷ l) (numberBits-zero k)
 
 -- the first of them
 pub numberBits-take : (n k v : ℕ) → take n (numberBits k v) ≡ numberBits (min k n) v

@@ -4,7 +4,7 @@ ghost use mathlib.Core.Path.{_≡_};
 ghost use mathlib.Core.Bool.{false};
 ghost use mathlib.Core.List.{[], _∷_};
 ghost use Prim.Native.Nat.{_+_, _-_, _*_, _/_, _%_, _^_, _≤_, _<_, min};
-ghost use lib.ListN.{length, getD, replicate};
+ghost use lib.ListN.{length, getD};
 ghost use lib.Seq.{sets, slice};
 ghost use Rattle.bits.specs.Stream.{bit, digit, numberBits, numberOf, bitsOf, withBits, Written, sameBits};
 
@@ -180,14 +180,6 @@ pub fn put_number(buf: &mut [u8], out: Cursor, limit: usize, v: u32, count: usiz
         left -= 8;
     }
     put_bits(buf, next, limit, rest, left)
-}
-
-// Writes `count` zeros.
-pub fn put_zeros(buf: &mut [u8], out: Cursor, limit: usize, count: usize) -> Cursor
-    requires { ⌜ (limit ≤ 8 * length (now buf)) × (out .at + count < 2 ^ 32) ⌝ }
-    ensures { λ r. ⌜ Written (bitsOf (now (buf .entry))) (bitsOf (now (buf .exit))) (out .at) limit (replicate count false) (r .at) ⌝ }
-{
-    put_number(buf, out, limit, 0, count)
 }
 
 // Stores `count` bytes from byte `start` on, which take the bits of `from` from `skip` on.
