@@ -17,7 +17,6 @@ pub fn made(root: &Path, file: &Path, words: &[&str]) {
     println!("cargo:rerun-if-changed={}", root.join("crates").display());
     println!("cargo:rerun-if-changed={}", file.display());
     println!("cargo:rerun-if-changed={}", root.join("host/kit.rs").display());
-    let _lock = lock(root).unwrap_or_else(|error| fail(&format!("cannot lock the target folder: {error}")));
     if !up_to_date(file, root) {
         make(words, root, file);
     }
@@ -28,15 +27,6 @@ pub fn repository() -> PathBuf {
     let package = env::var_os("CARGO_MANIFEST_DIR").expect("cargo names the package's folder");
     let above = Path::new(&package).ancestors().nth(2).expect("the package is at host/PACKAGE");
     above.to_path_buf()
-}
-
-/// Held while a file is looked at and made, since cargo runs several build scripts at a time.
-fn lock(root: &Path) -> io::Result<File> {
-    let target = root.join("target");
-    fs::create_dir_all(&target)?;
-    let file = File::create(target.join("host.lock"))?;
-    file.lock()?;
-    Ok(file)
 }
 
 fn up_to_date(file: &Path, root: &Path) -> bool {
@@ -64,17 +54,22 @@ fn newest(folder: &Path) -> io::Result<SystemTime> {
     Ok(time)
 }
 
+/// Runs `rt` while no other build script does, since cargo runs several at a time: a second run of it finds all proved.
 fn make(words: &[&str], root: &Path, file: &Path) {
     let command = format!("rt {}", words.join(" "));
-    let output = match Command::new("rt").args(words).current_dir(root).output() {
-        Ok(output) => output,
-        Err(error) if error.kind() == io::ErrorKind::NotFound => fail(&format!(
+    let target = root.join("target");
+    fs::create_dir_all(&target)
+        .unwrap_or_else(|error| fail(&format!("cannot make {}: {error}", target.display())));
+    if Command::new("rt").arg("help").output().is_err() {
+        fail(&format!(
             "{} is missing or older than crates/, and the Rattle kit's command 'rt', which makes it, is not on \
              the PATH",
             file.display()
-        )),
-        Err(error) => fail(&format!("cannot run '{command}': {error}")),
-    };
+        ));
+    }
+    let lock = target.join("host.lock");
+    let output = Command::new("flock").arg(&lock).arg("rt").args(words).current_dir(root).output();
+    let output = output.unwrap_or_else(|error| fail(&format!("cannot run 'flock' for '{command}': {error}")));
     if !output.status.success() {
         let said = [output.stdout, output.stderr].concat();
         fail(&format!("'{command}' failed ({}):\n{}", output.status, String::from_utf8_lossy(&said)));

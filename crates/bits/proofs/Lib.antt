@@ -3,3 +3,4 @@ pub mod NumberLaws
 pub mod StreamLaws
 pub mod WriteLaws
 pub mod SameLaws
+pub mod CopyLaws

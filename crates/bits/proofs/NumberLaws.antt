@@ -8,7 +8,7 @@ use native.Mathlib.Omega.{arith}
 use lib.Dec.{eqb}
 use lib.Arith.{lt-one, digits-lt}
 use lib.Bits.{block-half, block-odd}
-use lib.ListN.{length, getD, take, replicate, length-append}
+use lib.ListN.{length, getD, take, length-append}
 use lib.Pow.{shr-shr, shr-lt, split, high, pow-pos, pow-add}
 use lib.Seq.{sets, sets-eq, take-append-seam, drop-append-add, drop-at}
 use Rattle.bits.specs.Stream.{bit, digit, numberBits, numberOf, withBits}
@@ -35,10 +35,6 @@ numberBits-low (suc k) a r = rw (block-odd a k r, block-half a k r, numberBits-l
 pub numberBits-mod : (k n : ℕ) → numberBits k (n % 2 ^ k) ≡ numberBits k n
 numberBits-mod k n = sym (numberBits-low k (n / 2 ^ k) (n % 2 ^ k)) ∙ ap (numberBits k) (split n k)
 
-pub numberBits-zero : (k : ℕ) → numberBits k 0 ≡ replicate k false
-numberBits-zero zero = refl
-numberBits-zero (suc k) = ap {B = List Bool} (λ l. false ∷ l) (numberBits-zero k)
-
 -- the first of them
 pub numberBits-take : (n k v : ℕ) → take n (numberBits k v) ≡ numberBits (min k n) v
 numberBits-take zero k v = rw (min-zero k)
@@ -55,11 +51,30 @@ digit-odd zero h = refl
 digit-odd (suc zero) h = refl
 digit-odd (suc (suc n)) h = absurd (omega arith)
 
+pub digit-lt : (b : Bool) → digit b < 2
+digit-lt true = omega arith
+digit-lt false = omega arith
+
+pub digit-times : (b : Bool) (n : ℕ) → digit b * n ≤ n
+digit-times true n = omega arith
+digit-times false n = omega arith
+
+pub digit-bits : (b : Bool) → numberBits 1 (digit b) ≡ b ∷ []
+digit-bits true = refl
+digit-bits false = refl
+
 -- a number is read back from its bits, and bits from their number
 pub number-back : (k n : ℕ) → n < 2 ^ k → numberOf (numberBits k n) ≡ n
 number-back zero n h = sym (lt-one h)
 number-back (suc k) n h =
     rw (number-back k (n / 2) (omega (arith, pow-suc 2 k)), digit-odd (n % 2) (omega arith)) (omega arith)
+
+pub number-low : (k n : ℕ) → numberOf (numberBits k n) ≡ n % 2 ^ k
+number-low k n = ap numberOf (sym (numberBits-mod k n)) ∙ number-back k (n % 2 ^ k) (mod-lt n (pow-pos k))
+
+pub numberOf-append : (xs ys : List Bool) → numberOf (xs ++ ys) ≡ numberOf xs + numberOf ys * 2 ^ length xs
+numberOf-append [] ys = omega arith
+numberOf-append (x ∷ xs) ys = rw (numberOf-append xs ys, pow-suc 2 (length xs)) (omega arith)
 
 pub numberOf-lt : (bs : List Bool) → numberOf bs < 2 ^ length bs
 numberOf-lt [] = omega arith

@@ -1,14 +1,14 @@
 -- Laws of the stream of a byte buffer. Assumes nothing.
 use mathlib.Core.Path.{_≡_, refl, sym, ap, ap₂, _∙_}
 use mathlib.Core.Bool.{Bool, false}
-use mathlib.Core.List.{List, [], _∷_, _++_}
-use Prim.Native.Nat.{ℕ, zero, suc, _+_, _-_, _*_, _/_, _%_, _^_, _≤_, _<_}
+use mathlib.Core.List.{List, [], _∷_, _++_, append-assoc}
+use Prim.Native.Nat.{ℕ, zero, suc, _+_, _-_, _*_, _/_, _%_, _^_, _≤_, _<_, min}
 use native.Mathlib.Nat.{zero-add, suc-add}
 use native.Mathlib.Omega.{arith}
-use lib.ListN.{length, getD, set, take, drop, length-append, List·getD-append}
-use lib.Seq.{sets, set-append-left, length-sets, getD-append-add, take-append-seam, drop-append-seam, slice, slice-cons, slice-empty, length-slice, take-nil, take-take, drop-drop}
+use lib.ListN.{length, getD, set, take, drop, length-append, take-append-drop, List·getD-append}
+use lib.Seq.{sets, set-append-left, length-sets, getD-append-add, take-append-seam, drop-append-seam, take-append-le, drop-append-add, drop-at, slice, slice-cons, slice-empty, length-slice, take-nil, take-take, drop-drop}
 use Rattle.bits.specs.Stream.{bit, digit, numberBits, numberOf, bitsOf, withBits}
-use Rattle.bits.proofs.NumberLaws.{length-numberBits, getD-numberBits, number-back, numberOf-lt, withBits-bits}
+use Rattle.bits.proofs.NumberLaws.{length-numberBits, numberBits-add, numberBits-take, getD-numberBits, number-back, number-low, numberOf-append, numberOf-lt, withBits-bits}
 
 pub length-bitsOf : (l : List ℕ) → length (bitsOf l) ≡ 8 * length l
 length-bitsOf [] = refl
@@ -119,3 +119,40 @@ pub number-lt : (d : List Bool) (at k : ℕ) → at + k ≤ length d → numberO
 number-lt d at k h =
     let e : length (slice at (at + k) d) ≡ k = length-slice at (at + k) d h ∙ omega arith in
     rw e at (numberOf-lt (slice at (at + k) d))
+
+-- a range of bits in two parts
+pub slice-split : (d : List Bool) (at k end : ℕ) → at + k ≤ end → slice at end d ≡ slice at (at + k) d ++ slice (at + k) end d
+slice-split d at k end h = rw (slice-first d at k end h, slice-rest d at k end) (sym (take-append-drop k (slice at end d)))
+
+-- some bits of a byte, seen in the stream
+slice-byte : (l : List ℕ) (i k c : ℕ) → i < length l → k + c ≤ 8 → take c (drop (8 * i + k) (bitsOf l)) ≡ numberBits c (getD l i 0 / 2 ^ k)
+slice-byte [] i k c hi hk = absurd (omega arith)
+slice-byte (b ∷ bs) zero k c hi hk =
+    let e : k + (8 - k) ≡ 8 = omega arith in
+    let m : min (8 - k) c ≡ c = omega arith in
+    let rest : List Bool = numberBits (8 - k) (b / 2 ^ k) in
+    rw zero-add (
+    ap (λ (x : List Bool). take c (drop k (x ++ bitsOf bs))) (rw e at (numberBits-add k (8 - k) b))
+    ∙ ap (λ (x : List Bool). take c (drop k x)) (append-assoc (numberBits k b) rest (bitsOf bs))
+    ∙ ap (take c) (drop-at (numberBits k b) (rest ++ bitsOf bs) k (length-numberBits k b))
+    ∙ take-append-le c rest (bitsOf bs) (omega (arith, length-numberBits (8 - k) (b / 2 ^ k)))
+    ∙ numberBits-take c (8 - k) (b / 2 ^ k)
+    ∙ ap (λ (n : ℕ). numberBits n (b / 2 ^ k)) m
+    )
+slice-byte (b ∷ bs) (suc i) k c hi hk =
+    rw (past b i k, drop-append-add (numberBits 8 b) (bitsOf bs) (8 * i + k)) (slice-byte bs i k c (omega arith) hk)
+
+-- their number, at stream bit `at`
+pub part-number : (l : List ℕ) (at c : ℕ) → at < 8 * length l → at % 8 + c ≤ 8
+    → numberOf (slice at (at + c) (bitsOf l)) ≡ getD l (at / 8) 0 / 2 ^ (at % 8) % 2 ^ c
+part-number l at c h k =
+    let e : 8 * (at / 8) + at % 8 ≡ at = omega arith in
+    ap numberOf (drop-take at c (bitsOf l) ∙ (rw e at (slice-byte l (at / 8) (at % 8) c (omega arith) k)))
+    ∙ number-low c (getD l (at / 8) 0 / 2 ^ (at % 8))
+
+-- the number of a range in two parts
+pub number-parts : (d : List Bool) (at k n : ℕ) → k ≤ n → at + n ≤ length d
+    → numberOf (slice at (at + k) d) + numberOf (slice (at + k) (at + n) d) * 2 ^ k ≡ numberOf (slice at (at + n) d)
+number-parts d at k n h l =
+    let e : length (slice at (at + k) d) ≡ k = length-slice at (at + k) d (omega arith) ∙ omega arith in
+    sym (ap numberOf (slice-split d at k (at + n) (omega arith)) ∙ numberOf-append (slice at (at + k) d) (slice (at + k) (at + n) d) ∙ rw e)

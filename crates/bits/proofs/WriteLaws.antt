@@ -50,7 +50,7 @@ write-append d at limit (x ∷ xs) ys = go (decLe (suc at) limit) (write-append 
         rw (write-past d at limit (x ∷ (xs ++ ys)) (omega arith), write-past d at limit (x ∷ xs) (omega arith), write-past d (at + suc (length xs)) limit ys (omega arith))
 
 -- a run of stores in two parts
-sets-append : (d : List Bool) (at : ℕ) (xs ys : List Bool) → sets d at (xs ++ ys) ≡ sets (sets d at xs) (at + length xs) ys
+pub sets-append {ℓ} : {A : Type ℓ} (d : List A) (at : ℕ) (xs ys : List A) → sets d at (xs ++ ys) ≡ sets (sets d at xs) (at + length xs) ys
 sets-append d at [] ys = rw (add-zero at)
 sets-append d at (x ∷ xs) ys =
     let e : at + suc (length xs) ≡ suc at + length xs = omega arith in

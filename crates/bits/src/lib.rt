@@ -4,7 +4,7 @@ ghost use mathlib.Core.Path.{_≡_};
 ghost use mathlib.Core.Bool.{false};
 ghost use mathlib.Core.List.{[], _∷_};
 ghost use Prim.Native.Nat.{_+_, _-_, _*_, _/_, _%_, _^_, _≤_, _<_, min};
-ghost use lib.ListN.{length, getD, replicate};
+ghost use lib.ListN.{length, getD};
 ghost use lib.Seq.{sets, slice};
 ghost use Rattle.bits.specs.Stream.{bit, digit, numberBits, numberOf, bitsOf, withBits, Written, sameBits};
 
@@ -47,7 +47,7 @@ fn with_digit(n: u32, b: bool) -> u32
     requires { ⌜ n < 2 ^ 31 ⌝ }
     ensures { λ r. ⌜ r ≡ digit b + 2 * n ⌝ }
 {
-    if b { 2 * n + 1 } else { 2 * n }
+    2 * n + digit_of(b)
 }
 
 // The number that stands in the `count` bits from `at` on.
@@ -89,6 +89,29 @@ fn moved(x: u32, k: usize) -> u32
     x * power(k)
 }
 
+// The number in `count` bits, all within the byte of `at`, by one read of that byte.
+fn get_part(buf: &[u8], at: usize, count: usize) -> u32
+    requires { ⌜ (at % 8 + count ≤ 8) × (at + count ≤ 8 * length (now buf)) ⌝ }
+    ensures { λ r. ⌜ r ≡ numberOf (slice at (at + count) (bitsOf (now (buf .entry)))) ⌝ }
+{
+    if count == 0 {
+        return 0;
+    }
+    let i = at / 8;
+    low(wide(buf[i]) >> (at % 8), count)
+}
+
+// The number in the `count` bits from `at` on, at most eight, by at most two reads of a byte.
+pub fn get_bits(buf: &[u8], at: usize, count: usize) -> u32
+    requires { ⌜ (count ≤ 8) × (at + count ≤ 8 * length (now buf)) × (at < 2 ^ 32) ⌝ }
+    ensures { λ r. ⌜ r ≡ numberOf (slice at (at + count) (bitsOf (now (buf .entry)))) ⌝ }
+{
+    let first = least(count, 8 - at % 8);
+    let below = get_part(buf, at, first);
+    let above = get_part(buf, at + first, count - first);
+    below + moved(above, first)
+}
+
 // Byte b with the `count` bits from bit k on replaced by the lowest bits of v.
 fn with_bits(b: u8, k: usize, count: usize, v: u32) -> u8
     requires { ⌜ k + count ≤ 8 ⌝ }
@@ -128,16 +151,19 @@ pub fn put_bits(buf: &mut [u8], out: Cursor, limit: usize, v: u32, count: usize)
     }
 }
 
-// Writes one bit.
+// The number of a single bit.
+pub fn digit_of(b: bool) -> u32
+    ensures { λ r. ⌜ r ≡ digit b ⌝ }
+{
+    b as u32
+}
+
+// Writes one bit, with no branch on it.
 pub fn put(buf: &mut [u8], out: Cursor, limit: usize, b: bool) -> Cursor
     requires { ⌜ (limit ≤ 8 * length (now buf)) × (out .at < 2 ^ 32) ⌝ }
     ensures { λ r. ⌜ Written (bitsOf (now (buf .entry))) (bitsOf (now (buf .exit))) (out .at) limit (b ∷ []) (r .at) ⌝ }
 {
-    if b {
-        put_bits(buf, out, limit, 1, 1)
-    } else {
-        put_bits(buf, out, limit, 0, 1)
-    }
+    put_bits(buf, out, limit, digit_of(b), 1)
 }
 
 // Writes the `count` lowest bits of v, lowest first.
@@ -156,12 +182,32 @@ pub fn put_number(buf: &mut [u8], out: Cursor, limit: usize, v: u32, count: usiz
     put_bits(buf, next, limit, rest, left)
 }
 
-// Writes `count` zeros.
-pub fn put_zeros(buf: &mut [u8], out: Cursor, limit: usize, count: usize) -> Cursor
-    requires { ⌜ (limit ≤ 8 * length (now buf)) × (out .at + count < 2 ^ 32) ⌝ }
-    ensures { λ r. ⌜ Written (bitsOf (now (buf .entry))) (bitsOf (now (buf .exit))) (out .at) limit (replicate count false) (r .at) ⌝ }
+// Stores `count` bytes from byte `start` on, which take the bits of `from` from `skip` on.
+fn copy_bytes(from: &[u8], skip: usize, buf: &mut [u8], start: usize, count: usize)
+    requires { ⌜ (skip + 8 * count ≤ 8 * length (now from)) × (start + count ≤ length (now buf)) × (skip + 8 * count < 2 ^ 32) × (start + count < 2 ^ 32) ⌝ }
+    ensures { λ _. ⌜ bitsOf (now (buf .exit)) ≡ sets (bitsOf (now (buf .entry))) (8 * start) (slice skip (skip + 8 * count) (bitsOf (now (from .entry)))) ⌝ }
 {
-    put_number(buf, out, limit, 0, count)
+    let mut i = 0;
+    while i < count {
+        let v = get_bits(from, skip + 8 * i, 8);
+        put_part(buf, 8 * (start + i), 8, v);
+        i += 1;
+    }
+}
+
+// Stores the first `count` bits of `from` from `at` on, one write for each byte.
+pub fn copy_bits(from: &[u8], buf: &mut [u8], at: usize, count: usize)
+    requires { ⌜ (count ≤ 8 * length (now from)) × (at + count ≤ 8 * length (now buf)) × (at + count < 2 ^ 32) ⌝ }
+    ensures { λ _. ⌜ bitsOf (now (buf .exit)) ≡ sets (bitsOf (now (buf .entry))) at (slice 0 (0 + count) (bitsOf (now (from .entry)))) ⌝ }
+{
+    let first = least(count, 8 - at % 8);
+    let v = get_bits(from, 0, first);
+    put_part(buf, at, first, v);
+    let bytes = (count - first) / 8;
+    copy_bytes(from, first, buf, (at + first) / 8, bytes);
+    let done = first + 8 * bytes;
+    let last = get_bits(from, done, count - done);
+    put_part(buf, at + done, count - done, last);
 }
 
 // Whether the `count` bits of a from `at` on are those of b from `from` on.
@@ -171,10 +217,11 @@ pub fn same_bits(a: &[u8], at: usize, b: &[u8], from: usize, count: usize) -> bo
 {
     let mut i = 0;
     while i < count {
-        if get(a, at + i) != get(b, from + i) {
+        let part = least(count - i, 8);
+        if get_bits(a, at + i, part) != get_bits(b, from + i, part) {
             return false;
         }
-        i += 1;
+        i += part;
     }
     true
 }

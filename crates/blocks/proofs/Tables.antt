@@ -1,6 +1,6 @@
 -- A test of a whole table, carried to each of its entries; and a table of places in which each occurs once, there and back.
 use mathlib.Core.Path.{_≡_, refl, sym, ap, _∙_}
-use mathlib.Core.Bool.{Bool, true, false, _&&_, cond, false≢true}
+use mathlib.Core.Bool.{Bool, true, false, _&&_, cond, and-eq-true-iff}
 use mathlib.Core.List.{List, [], _∷_}
 use Prim.Native.Nat.{ℕ, zero, suc, _+_, _<_, _≤_}
 use native.Mathlib.Nat.{eq-or-lt-of-le, le-of-suc-le-suc}
@@ -13,17 +13,13 @@ use borrow.Author.Tests.{eqb-true, eq-eqb, ltb-true}
 use Rattle.blocks.specs.Order.{below, count, permutes, entryOf, reorder, restore}
 use Rattle.blocks.proofs.Lists.{length-tabulate, getD-tabulate, getD-map-in}
 
-pub both : (a b : Bool) → (a && b) ≡ true → (a ≡ true) × (b ≡ true)
-both true b e = (refl, e)
-both false b e = absurd (false≢true e)
-
 -- what a test of all numbers below n says of each
 pub each : (n : ℕ) (f : ℕ → Bool) → below n f ≡ true → (i : ℕ) → i < n → f i ≡ true
 each zero f e i h = absurd (omega arith)
 each (suc n) f e i h =
     elim (eq-or-lt-of-le (le-of-suc-le-suc h)) [
-      | inl q ↦ ap f q ∙ both (f n) (below n f) e .0
-      | inr l ↦ each n f (both (f n) (below n f) e .1) i l
+      | inl q ↦ ap f q ∙ and-eq-true-iff (f n) (below n f) .0 e .0
+      | inr l ↦ each n f (and-eq-true-iff (f n) (below n f) .0 e .1) i l
     ]
 
 -- n entries, each a place below n, and each place once
@@ -34,8 +30,8 @@ pub record Permutation (n : ℕ) (t : List ℕ) : Type 0 where
 
 pub permutation : (n : ℕ) (t : List ℕ) → permutes n t ≡ true → Permutation n t
 permutation n t e =
-    let p = both (eqb (length t) n) _ e in
-    let q = both (below n (λ k. ltb (getD t k 0) n)) _ (p .1) in
+    let p = and-eq-true-iff (eqb (length t) n) _ .0 e in
+    let q = and-eq-true-iff (below n (λ k. ltb (getD t k 0) n)) _ .0 (p .1) in
     record {
       long = eqb-true (length t) n (p .0);
       inside = λ k h. ltb-true (getD t k 0) n (each n _ (q .0) k h);

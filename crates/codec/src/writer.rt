@@ -22,9 +22,10 @@ use planes::writer::Coded;
 fn planes_needed(us: &[u32]) -> u32
     ensures { λ r. ⌜ r ≡ planesNeeded 32 (now (us .entry)) ⌝ }
 {
+    let ones = planes::writer::planes_with_ones(us);
     let mut p: u32 = 32;
     while 1 < p {
-        if planes::writer::any_one(us, 32 - p) {
+        if (ones >> (32 - p)) % 2 == 1 {
             return p;
         }
         p -= 1;

@@ -1,6 +1,6 @@
 -- Blocks of patterns: what holds of every word of a block holds at each place, and a block that is whole at e comes back from its integers.
 use mathlib.Core.Path.{_≡_, refl, sym, ap, ap₂, _∙_}
-use mathlib.Core.Bool.{Bool, true, false, _&&_, _||_, false≢true}
+use mathlib.Core.Bool.{Bool, true, false, _&&_, _||_, false≢true, and-eq-true-iff}
 use mathlib.Core.List.{List, [], _∷_, map}
 use Prim.Native.Nat.{ℕ, zero, suc, zero-le, suc-le-suc, _+_, _/_, _^_, _≤_, _<_, max}
 use native.Mathlib.Nat.{le-trans, lt-of-le-of-lt, le-max-left, le-max-right, max-le, max-zero, le-antisymm, mod-lt, zero-lt-suc, le-of-suc-le-suc}
@@ -17,14 +17,6 @@ use Rattle.floats.proofs.Formats.{emax-pos}
 use Rattle.floats.proofs.Return.{finite-of, whole-finite, return}
 
 -- ---- one word more
-and-left : (a b : Bool) → (a && b) ≡ true → a ≡ true
-and-left true b h = refl
-and-left false b h = absurd (false≢true h)
-
-and-right : (a b : Bool) → (a && b) ≡ true → b ≡ true
-and-right true b h = h
-and-right false b h = absurd (false≢true h)
-
 or-left : (a b : Bool) → (a || b) ≡ false → a ≡ false
 or-left false b h = refl
 or-left true b h = absurd (false≢true (sym h))
@@ -62,8 +54,8 @@ module _ (p : ℕ → Bool) where
 
   pub every-at : (ws : List ℕ) → every p ws ≡ true → (i : ℕ) → i < length ws → p (getD ws i 0) ≡ true
   every-at [] h i l = absurd (omega arith)
-  every-at (w ∷ ws) h zero l = and-left (p w) (every p ws) h
-  every-at (w ∷ ws) h (suc i) l = every-at ws (and-right (p w) (every p ws) h) i (le-of-suc-le-suc l)
+  every-at (w ∷ ws) h zero l = and-eq-true-iff (p w) (every p ws) .0 h .0
+  every-at (w ∷ ws) h (suc i) l = every-at ws (and-eq-true-iff (p w) (every p ws) .0 h .1) i (le-of-suc-le-suc l)
 
   pub none-at : (ws : List ℕ) → some p ws ≡ false → (i : ℕ) → i < length ws → p (getD ws i 0) ≡ false
   none-at [] h i l = absurd (omega arith)
@@ -118,8 +110,8 @@ module _ (f : Format) where
   pub whole-none-special : (e : ℕ) (ws : List ℕ) → allWhole f e ws ≡ true → anySpecial f ws ≡ false
   whole-none-special e [] h = refl
   whole-none-special e (w ∷ ws) h =
-      let n = whole-finite f e w (and-left (whole f e w) (allWhole f e ws) h) in
-      ap₂ _||_ (ne-eqb (exponentField f w) (ones f) (λ z. omega arith)) (whole-none-special e ws (and-right (whole f e w) (allWhole f e ws) h))
+      let n = whole-finite f e w (and-eq-true-iff (whole f e w) (allWhole f e ws) .0 h .0) in
+      ap₂ _||_ (ne-eqb (exponentField f w) (ones f) (λ z. omega arith)) (whole-none-special e ws (and-eq-true-iff (whole f e w) (allWhole f e ws) .0 h .1))
 
 -- ---- there and back
 module _ (f : Format) (e : ℕ) where
@@ -128,8 +120,8 @@ module _ (f : Format) (e : ℕ) where
   return-all [] words above h = refl
   return-all (w ∷ ws) words above h =
       ap₂ _∷_
-      (return f e w (lt-of-le-of-lt (le-max-left (exponentField f w) (largestField f ws)) above) (words 0 (zero-lt-suc (length ws))) (and-left (whole f e w) (allWhole f e ws) h))
-      (return-all ws (λ i l. words (suc i) (suc-le-suc l)) (lt-of-le-of-lt (le-max-right (exponentField f w) (largestField f ws)) above) (and-right (whole f e w) (allWhole f e ws) h))
+      (return f e w (lt-of-le-of-lt (le-max-left (exponentField f w) (largestField f ws)) above) (words 0 (zero-lt-suc (length ws))) (and-eq-true-iff (whole f e w) (allWhole f e ws) .0 h .0))
+      (return-all ws (λ i l. words (suc i) (suc-le-suc l)) (lt-of-le-of-lt (le-max-right (exponentField f w) (largestField f ws)) above) (and-eq-true-iff (whole f e w) (allWhole f e ws) .0 h .1))
 
 -- at the block's own e
 pub return-block : (f : Format) (ws : List ℕ) → ((i : ℕ) → i < length ws → getD ws i 0 < 2 ^ wordSize f) → allWhole f (blockExponent f ws) ws ≡ true

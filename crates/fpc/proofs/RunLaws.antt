@@ -11,7 +11,8 @@ use Rattle.predict.specs.Predictors.{Predictors, start, update, after, Tables}
 use Rattle.predict.specs.Stream.{pairBytes, oddBytes, streamFrom, stream, tableF, tableD}
 use Rattle.steps.specs.Calls.{Within, predictors, Appended}
 use Rattle.fpc.specs.Calls.{Stand}
-use Rattle.steps.proofs.WriteLaws.{start-is, start-within, sets-append, same-size, within-next}
+use Rattle.bits.proofs.WriteLaws.{sets-append}
+use Rattle.steps.proofs.WriteLaws.{start-is, start-within, same-size, within-next}
 use Rattle.predict.proofs.Lengths.{pair-le}
 
 -- what writing leaves: the next place, the output and both tables

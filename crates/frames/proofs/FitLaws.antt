@@ -5,7 +5,7 @@ use mathlib.Core.List.{List, [], _∷_, _++_}
 use Prim.Native.Nat.{ℕ, zero, suc, _+_, _-_, _*_, _/_, _≤_, _<_}
 use native.Mathlib.Decide.{ℕ-discrete}
 use native.Mathlib.Omega.{arith}
-use borrow.Author.Tests.{eqb-true, eq-eqb, ne-eqb, leb-true}
+use borrow.Author.Tests.{eqb-true, eq-eqb, ne-eqb, leb-true, le-leb}
 use lib.Dec.{eqb, leb}
 use lib.ListN.{length, take, drop, replicate, length-append}
 use Rattle.slots.specs.declared.Params.{Params}
@@ -85,3 +85,20 @@ taken-fits s (b ∷ bs) room = go (leb longestLine room) refl (ℕ-discrete b ne
 pub going-fits : {s : State} {piece before after : List ℕ} {t : State} {used made : ℕ} → Going s piece before after t used made
     → used ≡ taken s piece (length before) → made ≤ length before
 going-fits {s} {piece} {before} g u = omega (arith, g .fed .output .moved, rw (← u) at (taken-fits s piece (length before)))
+
+-- with room for what they give and a longest line besides, all bytes of a piece are taken
+pub taken-all : (s : State) (piece : List ℕ) (room : ℕ) → length (run s piece .output) + longestLine ≤ room → taken s piece room ≡ length piece
+taken-all s [] room h = refl
+taken-all s (b ∷ bs) room h = go (ℕ-discrete b newline) (taken-all (nextLine s) bs (room - length (answerTo s true))) (taken-all (hold s (b ∷ [])) bs room)
+  where
+    e : leb longestLine room ≡ true
+    e = le-leb longestLine room (omega arith)
+
+    go : Dec (b ≡ newline)
+        → (length (run (nextLine s) bs .output) + longestLine ≤ room - length (answerTo s true) → taken (nextLine s) bs (room - length (answerTo s true)) ≡ length bs)
+        → (length (run (hold s (b ∷ [])) bs .output) + longestLine ≤ room → taken (hold s (b ∷ [])) bs room ≡ length bs)
+        → taken s (b ∷ bs) room ≡ suc (length bs)
+    go (yes q) i j =
+        let k = rw (run-newline s b bs q) at h in
+        rw (e, eq-eqb b newline q) (ap suc (i (omega (arith, k, length-append (answerTo s true) (run (nextLine s) bs .output)))))
+    go (no q) i j = rw (e, ne-eqb b newline q) (ap suc (j (rw (run-byte s b bs q) at h)))

@@ -10,9 +10,10 @@ use borrow.Author.Tests.{eqb-true, eqb-false, ne-eqb, eq-eqb, le-leb}
 use lib.Dec.{eqb, leb}
 use lib.ListN.{length, take, drop, length-append, length-drop, drop-of-length-le}
 use lib.Seq.{slice, sets, length-sets, take-add, drop-drop, take-all}
+use Rattle.bits.proofs.WriteLaws.{sets-append}
 use Rattle.frames.specs.Listing.{newline}
 use Rattle.frames.specs.Pieces.{State, mostHeld, longestLine, answerTo, nextLine, hold, Ran, run, taken, Put, beforeNewline, lineLength, Fed}
-use Rattle.frames.proofs.PutLaws.{sets-append, slice-take}
+use Rattle.frames.proofs.PutLaws.{slice-take}
 use Rattle.frames.proofs.ClipLaws.{clip-append, answer-hold, next-hold}
 
 -- ---- bytes one after the other

@@ -8,3 +8,4 @@ pub mod Words
 pub mod Back
 pub mod Range
 pub mod Reading
+pub mod Ones

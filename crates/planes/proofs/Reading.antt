@@ -124,14 +124,10 @@ module _ (ws : List ℕ) (k n : ℕ) (d : List Bool) (end : ℕ) where
         let f : length ws - n ≡ suc (length ws - (n + 1)) = omega arith in
         rw (here, z, f) r
 
-    -- one of the first bits: a 1, a 0
-    pub bit-one : {ws₁ : List ℕ} → n < length ws → b ≡ true → ws₁ ≡ set ws n (getD ws n 0 + 2 ^ k)
+    -- one of the first bits
+    pub bit-here : {ws₁ : List ℕ} → n < length ws → ws₁ ≡ set ws n (getD ws n 0 + digit b * 2 ^ k)
         → (ws₁ ≡ addAt n k (take 1 (slice at end d)) ws) × (slice (at + 1) end d ≡ drop 1 (slice at end d)) × (at + 1 ≤ end)
-    bit-one l z s = rw (here, z) (s ∙ sym (add-true n k [] ws l ∙ add-none (n + 1) k (set ws n (getD ws n 0 + 2 ^ k))), refl, omega arith)
-
-    pub bit-zero : n < length ws → b ≡ false
-        → (ws ≡ addAt n k (take 1 (slice at end d)) ws) × (slice (at + 1) end d ≡ drop 1 (slice at end d)) × (at + 1 ≤ end)
-    bit-zero l z = rw (here, z) (sym (add-false n k [] ws l ∙ add-none (n + 1) k ws), refl, omega arith)
+    bit-here l s = rw here (s ∙ sym (add-cons n k b [] ws l ∙ add-none (n + 1) k (set ws n (getD ws n 0 + digit b * 2 ^ k))), refl, omega arith)
 
     -- a scan before the last place: a 0, a 1
     pub scan-zero : {ws′ : List ℕ} {at′ n′ : ℕ} → n + 1 < length ws → b ≡ false

@@ -3,7 +3,7 @@ ghost use mathlib.Core.Path.{_≡_};
 ghost use Prim.Native.Nat.{suc, _+_, _-_, _*_, _^_, _≤_, _<_};
 ghost use lib.ListN.{length, drop, getD, set, take, replicate};
 ghost use lib.Seq.{slice};
-ghost use Rattle.bits.specs.Stream.{bitsOf};
+ghost use Rattle.bits.specs.Stream.{digit, bitsOf};
 ghost use Rattle.planes.specs.Reader.{readTest, readScan, readWords, addAt, Room, PartRead, PlaneRead};
 
 // Where the reader stands: the place of the next bit, and n.
@@ -25,6 +25,22 @@ fn add_one(words: &mut [u32], k: u32, i: usize)
     ensures { λ _. ⌜ now (words .exit) ≡ set (now (words .entry)) i (getD (now (words .entry)) i 0 + 2 ^ k) ⌝ }
 {
     words[i] = words[i] + power(k);
+}
+
+// Bit b as a number, at plane k.
+fn placed(b: bool, k: u32) -> u32
+    requires { ⌜ k < 32 ⌝ }
+    ensures { λ r. ⌜ r ≡ digit b * 2 ^ k ⌝ }
+{
+    bits::digit_of(b) * power(k)
+}
+
+// Bit b in plane k of word i, with no branch on it.
+fn add_bit(words: &mut [u32], k: u32, i: usize, b: bool)
+    requires { ⌜ (k < 32) × (i < length (now words)) × (getD (now words) i 0 + 2 ^ k < 2 ^ 32) ⌝ }
+    ensures { λ _. ⌜ now (words .exit) ≡ set (now (words .entry)) i (getD (now (words .entry)) i 0 + digit b * 2 ^ k) ⌝ }
+{
+    words[i] = words[i] + placed(b, k);
 }
 
 // The test at place n: a 0, or the end of the budget, ends the plane; a 1 is followed by a scan.
@@ -81,12 +97,9 @@ fn read_bit(buf: &[u8], at: usize, end: usize, words: &mut [u32], k: u32, i: usi
         × (slice r end (bitsOf (now (buf .entry))) ≡ drop 1 (slice at end (bitsOf (now (buf .entry))))) × (r ≤ end) ⌝ }
 {
     if at < end {
-        if bits::get(buf, at) {
-            add_one(words, k, i);
-            at + 1
-        } else {
-            at + 1
-        }
+        let b = bits::get(buf, at);
+        add_bit(words, k, i, b);
+        at + 1
     } else {
         at
     }

@@ -1,6 +1,6 @@
 // The coder: writes the planes of words to a stream of bits, below a limit.
 ghost use mathlib.Core.Path.{_≡_};
-ghost use Prim.Native.Nat.{_+_, _-_, _*_, _^_, _≤_, _<_};
+ghost use Prim.Native.Nat.{ℕ, _+_, _-_, _*_, _^_, _≤_, _<_};
 ghost use lib.ListN.{length, getD, take, drop};
 ghost use Rattle.bits.specs.Stream.{bit, bitsOf, Written};
 ghost use Rattle.planes.specs.Coder.{plane, any, onesEnd, scan, test, scanMoves, planeCode, planeNext, planesCode};
@@ -41,12 +41,17 @@ fn ones_end(words: &[u32], k: u32) -> usize
     0
 }
 
-// Whether plane k has a one.
-pub fn any_one(words: &[u32], k: u32) -> bool
-    requires { ⌜ k < 32 ⌝ }
-    ensures { λ r. ⌜ r ≡ any (plane k (now (words .entry))) ⌝ }
+// A word whose bit k says whether plane k has a one.
+pub fn planes_with_ones(words: &[u32]) -> u32
+    ensures { λ r. ⌜ ((k : ℕ) → bit k r ≡ any (plane k (now (words .entry)))) ⌝ }
 {
-    0 < ones_end(words, k)
+    let mut all: u32 = 0;
+    let mut i = 0;
+    while i < words.len() {
+        all = all | words[i];
+        i += 1;
+    }
+    all
 }
 
 // The test at place n: is any bit from there on a one? A 1 is followed by a scan.
@@ -120,15 +125,19 @@ fn verbatim(words: &[u32], k: u32, n: usize, buf: &mut [u8], out: Cursor, limit:
     next
 }
 
-// Plane k: its n first bits as they are, then a test.
+// Plane k: its n first bits as they are, then a test, if places are left.
 fn put_plane(words: &[u32], k: u32, n: usize, buf: &mut [u8], out: Cursor, limit: usize) -> Coder
     requires { ⌜ (k < 32) × (n ≤ length (now words)) × (limit ≤ 8 * length (now buf)) × (out .at + 2 * length (now words) < 2 ^ 32) ⌝ }
     ensures { λ r. ⌜ Advanced (bitsOf (now (buf .entry))) (bitsOf (now (buf .exit))) (out .at) limit
         (planeCode n (plane k (now (words .entry)))) (planeNext n (plane k (now (words .entry)))) (r .out .at) (r .n) ⌝ }
 {
-    let end = ones_end(words, k);
     let next = verbatim(words, k, n, buf, out, limit);
-    test(words, k, end, n, buf, next, limit)
+    if n < words.len() {
+        let end = ones_end(words, k);
+        test(words, k, end, n, buf, next, limit)
+    } else {
+        Coder { out: next, n }
+    }
 }
 
 // The planes from the top one downward, p of them.

@@ -7,6 +7,7 @@ use native.Mathlib.Numerals.{add-one}
 use native.Mathlib.Omega.{arith}
 use lib.ListN.{replicate, length-replicate, length, set, length-append, length-set}
 use lib.Seq.{sets}
+use Rattle.bits.proofs.WriteLaws.{sets-append}
 use Rattle.steps.specs.declared.Coded.{Coded}
 use Rattle.steps.specs.declared.Place.{Place}
 use Rattle.words.specs.Word.{minus}
@@ -16,13 +17,6 @@ use Rattle.predict.specs.Stream.{bytesOf, remaining, half, rest, oddHalf, pairB
 use Rattle.steps.specs.Calls.{Within, predictors, Encoded, pairOf, Appended}
 use Rattle.predict.proofs.ByteLaws.{length-low}
 use Rattle.predict.proofs.CodeLaws.{half-code}
-
--- stores one after the other
-pub sets-append : (l : List ℕ) (i : ℕ) (xs ys : List ℕ) → sets l i (xs ++ ys) ≡ sets (sets l i xs) (i + length xs) ys
-sets-append l i [] ys = rw add-zero
-sets-append l i (x ∷ xs) ys =
-    let e : i + suc (length xs) ≡ suc i + length xs = omega arith in
-    rw e (sets-append (set l i x) (suc i) xs ys)
 
 -- the two halves' byte, then the bytes that remain of both xors
 pub put-pair-is : (out : List ℕ) (at : ℕ) (a b : Coded) (m n : ℕ) (o₁ o₂ o₃ : List ℕ)

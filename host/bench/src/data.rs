@@ -1,29 +1,7 @@
 //! The blocks and the doubles that are stored and read.
 
+use random::Random;
 use windlassow::{Dimension, Kind};
-
-/// Marsaglia's xorshift generator of 64 bits, multiplied at the end.
-pub struct Random(u64);
-
-impl Random {
-    /// A generator with a fixed seed.
-    pub fn new(seed: u64) -> Random {
-        Random(seed.wrapping_mul(0x9E37_79B9_7F4A_7C15) | 1)
-    }
-
-    /// 64 bits.
-    pub fn bits(&mut self) -> u64 {
-        self.0 ^= self.0 >> 12;
-        self.0 ^= self.0 << 25;
-        self.0 ^= self.0 >> 27;
-        self.0.wrapping_mul(0x2545_F491_4F6C_DD1D)
-    }
-
-    /// A number from 0 to 1.
-    fn part(&mut self) -> f64 {
-        (self.bits() >> 11) as f64 / (1u64 << 53) as f64
-    }
-}
 
 /// What the values are like.
 #[derive(Clone, Copy, PartialEq)]

@@ -7,8 +7,8 @@ mod ffi;
 mod patterns;
 
 pub use ffi::{to_integer, to_pattern};
-pub use patterns::Random;
 use patterns::{fractions, integers};
+pub use random::Random;
 use reference::floats;
 
 /// A result that differs from the hardware's.
@@ -78,13 +78,13 @@ pub fn chosen_patterns(random: &mut Random) -> Outcome {
 /// Random ones of both, `count` of each.
 pub fn random_ones(random: &mut Random, count: u64) -> Outcome {
     for _ in 0..count {
-        let e = random.below(256);
-        let shift = random.below(32);
+        let e = random.word_below(256);
+        let shift = random.word_below(32);
         compare_to_pattern(e, (random.word() as i32 >> shift) as u32)?;
-        let e = 1 + random.below(255);
+        let e = 1 + random.word_below(255);
         // Half of them near e, where not all bits are cut.
-        let lowest = if random.below(2) == 0 { e.saturating_sub(40) } else { 0 };
-        let field = lowest + random.below(e.min(255) - lowest);
+        let lowest = if random.word_below(2) == 0 { e.saturating_sub(40) } else { 0 };
+        let field = lowest + random.word_below(e.min(255) - lowest);
         compare_to_integer(e, random.word() & 0x807F_FFFF | field << 23)?;
     }
     Ok(2 * count)

@@ -1,27 +1,6 @@
 //! The inputs.
 
-/// Marsaglia's xorshift generator of 64 bits, multiplied at the end.
-pub struct Random(u64);
-
-impl Random {
-    /// A generator with a seed.
-    pub fn new(seed: u64) -> Random {
-        Random(seed.wrapping_mul(0x9E37_79B9_7F4A_7C15) | 1)
-    }
-
-    /// A word of 32 bits.
-    pub fn word(&mut self) -> u32 {
-        self.0 ^= self.0 >> 12;
-        self.0 ^= self.0 << 25;
-        self.0 ^= self.0 >> 27;
-        (self.0.wrapping_mul(0x2545_F491_4F6C_DD1D) >> 32) as u32
-    }
-
-    /// A number from 0 to end - 1.
-    pub fn below(&mut self, end: u32) -> u32 {
-        ((u64::from(self.word()) * u64::from(end)) >> 32) as u32
-    }
-}
+use random::Random;
 
 /// Integers of both signs, of every length and for every number of low bits that rounding may drop.
 pub fn integers(random: &mut Random) -> Vec<u32> {

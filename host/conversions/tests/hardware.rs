@@ -16,7 +16,7 @@ fn chosen_patterns_agree() {
 
 #[test]
 fn random_ones_agree() {
-    let long = std::env::var("WINDLASSOW_LONG").is_ok_and(|value| value == "1");
+    let long = random::is_long();
     let millions = if long { 2_000 } else { 10 };
     random_ones(&mut Random::new(3), millions * 1_000_000).unwrap();
 }

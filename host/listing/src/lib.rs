@@ -4,11 +4,9 @@
 
 mod pipe;
 mod process;
-mod random;
 
 pub use pipe::feed;
 pub use process::{peak_kib, wait_for};
-pub use random::Random;
 use std::path::{Path, PathBuf};
 
 /// The program: `target/bin/listing` of the repository, or the one that `WINDLASSOW_LISTING` names.
@@ -28,9 +26,4 @@ pub fn program() -> PathBuf {
 pub fn repository() -> PathBuf {
     let package = Path::new(env!("CARGO_MANIFEST_DIR"));
     package.ancestors().nth(2).expect("the package is at host/listing").to_path_buf()
-}
-
-/// Whether the tests run for minutes, not seconds.
-pub fn is_long() -> bool {
-    std::env::var("WINDLASSOW_LONG").is_ok_and(|value| value == "1")
 }

@@ -122,7 +122,8 @@ fn candidate(size: usize, stream: &[u8]) -> Option<Vec<u64>> {
             if is_second && half == ODD_END && rest == [0] {
                 return Some(doubles);
             }
-            let bytes = rest.split_off(..remaining_bytes(half % 8))?;
+            let (bytes, others) = rest.split_at_checked(remaining_bytes(half % 8))?;
+            rest = others;
             let v = predictors.double(half, bytes);
             predictors.update(v);
             doubles.push(v);

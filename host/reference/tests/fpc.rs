@@ -8,9 +8,9 @@ const SIZES: [usize; 7] = [16, 32, 64, 128, 256, 512, 1024];
 
 fn runs(random: &mut Random, len: usize) -> Vec<Vec<u64>> {
     let smooth = (0..len).map(|k| (20.0 + (k as f64 / 10.0).sin()).to_bits()).collect();
-    let constant = vec![random.next(); len];
-    let noise = (0..len).map(|_| random.next()).collect();
-    let shifted = (0..len).map(|_| random.next() >> random.below(64)).collect();
+    let constant = vec![random.bits(); len];
+    let noise = (0..len).map(|_| random.bits()).collect();
+    let shifted = (0..len).map(|_| random.bits() >> random.below(64)).collect();
     vec![smooth, constant, noise, shifted]
 }
 
@@ -95,7 +95,7 @@ fn row_23_leading_zero_bytes() {
 
 #[test]
 fn runs_come_back_with_the_same_tables() {
-    let mut random = Random(31);
+    let mut random = Random::new(31);
     for size in SIZES {
         for len in [0, 1, 2, 3, 4, 5, 100, 101, 4095, 4096] {
             for run in runs(&mut random, len) {
@@ -119,14 +119,14 @@ fn runs_come_back_with_the_same_tables() {
 
 #[test]
 fn an_accepted_stream_is_the_writers() {
-    let mut random = Random(47);
+    let mut random = Random::new(47);
     let mut accepted = 0;
     for _ in 0..20_000 {
         let len = random.below(12);
         let stream: Vec<u8> = (0..len)
             .map(|_| {
                 if random.below(3) == 0 {
-                    random.next() as u8
+                    random.bits() as u8
                 } else {
                     [0x77, 0x76, 0, 0x7F][random.below(4)]
                 }

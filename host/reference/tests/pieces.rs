@@ -27,7 +27,7 @@ fn the_order_is_document_01s_table() {
 
 #[test]
 fn differences_are_undone_and_lifts_nearly() {
-    let mut random = Random(77);
+    let mut random = Random::new(77);
     for _ in 0..10_000 {
         let block = [0; 4].map(|_: u32| random.word());
         assert_eq!(transform::sums(transform::differences(block)), block);
@@ -52,7 +52,7 @@ fn differences_are_binomial() {
 
 #[test]
 fn planes_come_back_and_meet_the_bound() {
-    let mut random = Random(99);
+    let mut random = Random::new(99);
     for n in [4usize, 16, 64] {
         for p in 1..=32 {
             for spread in 0..40 {
@@ -82,7 +82,7 @@ fn planes_of_64_bit_words() {
 
 #[test]
 fn reading_a_cut_code_never_sets_other_bits() {
-    let mut random = Random(5);
+    let mut random = Random::new(5);
     for _ in 0..200 {
         let block: Vec<u32> = (0..16).map(|_| random.word() >> random.below(32)).collect();
         let code = planes::code(&block, 32);
@@ -129,7 +129,7 @@ fn to_pattern_by_integers(e: u32, integer: u32) -> u32 {
 
 #[test]
 fn conversion_to_patterns_agrees_with_integer_arithmetic() {
-    let mut random = Random(0xABCD);
+    let mut random = Random::new(0xABCD);
     for e in 0..256 {
         for k in 0..32 {
             for around in -2i64..=2 {
@@ -158,7 +158,7 @@ fn to_integer_by_integers(e: u32, word: u32) -> u32 {
 
 #[test]
 fn conversion_to_integers_agrees_with_integer_arithmetic() {
-    let mut random = Random(0xEF01);
+    let mut random = Random::new(0xEF01);
     for e in 1..256 {
         for field in 0..e.min(255) {
             for _ in 0..20 {

@@ -117,10 +117,10 @@ fn subnormals_have_e_1() {
 
 #[test]
 fn neighbours_keep_their_bits() {
-    let mut random = Random(0x1F2E_3D4C_5B6A_7988);
+    let mut random = Random::new(0x1F2E_3D4C_5B6A_7988);
     for width in [16, 17, 19, 23, 33, 136, 137, 145, 147] {
         let p = params(INTEGERS, 1, LOSSY, 32, width);
-        let before: Vec<u8> = (0..150).map(|_| random.next() as u8).collect();
+        let before: Vec<u8> = (0..150).map(|_| random.bits() as u8).collect();
         for slot in 0..slot_count(&p, &before).count as usize {
             let mut after = before.clone();
             assert_eq!(store(&p, &mut after, slot, &[random.word(); 4]).answer, 0);
@@ -171,7 +171,7 @@ fn blocks(random: &mut Random, n: usize) -> Vec<Vec<u32>> {
 
 #[test]
 fn exact_blocks_come_back() {
-    let mut random = Random(0x0123_4567_89AB_CDEF);
+    let mut random = Random::new(0x0123_4567_89AB_CDEF);
     for (kind, extra) in [(INTEGERS, 4), (FLOATS, 14)] {
         for (dimension, n) in [(1, 4), (2, 16)] {
             // Every slot of 33N + 4 or 33N + 14 bits takes every block.

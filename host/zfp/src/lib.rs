@@ -15,7 +15,6 @@ pub mod expected;
 mod ffi;
 pub mod libzfp;
 pub mod make;
-pub mod random;
 pub mod report;
 pub mod run;
 pub mod slots;

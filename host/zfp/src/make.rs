@@ -1,6 +1,6 @@
 //! Blocks to write.
 
-use crate::random::Random;
+use random::Random;
 use reference::transform;
 
 /// Words at the edges of integers and of float patterns.
@@ -54,11 +54,11 @@ pub const MAKERS: [Maker; 18] = [
     ("powers of two and their neighbours", powers),
     ("smooth integers", smooth_integers),
     ("integers of one magnitude", |random, n| {
-        let shift = random.below(32);
+        let shift = random.word_below(32);
         every(random, n, |random, _| (random.word() as i32 >> shift) as u32)
     }),
     ("integers of every magnitude", |random, n| {
-        every(random, n, |random, _| (random.word() as i32 >> random.below(32)) as u32)
+        every(random, n, |random, _| (random.word() as i32 >> random.word_below(32)) as u32)
     }),
     ("sparse words", |random, n| {
         every(random, n, |random, _| if random.once_in(6) { random.pick(&SPECIAL) } else { 0 })
@@ -66,22 +66,24 @@ pub const MAKERS: [Maker; 18] = [
     ("readings of a probe", readings),
     ("smooth floats", smooth_floats),
     ("whole numbers as floats", |random, n| {
-        let shift = random.below(31);
+        let shift = random.word_below(31);
         every(random, n, |random, _| ((random.word() as i32 >> shift) as f32).to_bits())
     }),
     ("floats of few fraction bits", |random, n| {
-        let field = random.below(252);
-        every(random, n, |random, _| (field + random.below(3)) << 23 | random.word() & (SIGN | 0x0070_0000))
+        let field = random.word_below(252);
+        every(random, n, |random, _| {
+            (field + random.word_below(3)) << 23 | random.word() & (SIGN | 0x0070_0000)
+        })
     }),
     ("floats with every exponent", |random, n| {
-        every(random, n, |random, _| random.below(256) << 23 | random.word() & (SIGN | FRACTION))
+        every(random, n, |random, _| random.word_below(256) << 23 | random.word() & (SIGN | FRACTION))
     }),
     ("finite floats near a largest exponent", |random, n| {
-        let field = random.below(255);
+        let field = random.word_below(255);
         near(random, n, field)
     }),
     ("finite floats near a low exponent", |random, n| {
-        let field = random.below(36);
+        let field = random.word_below(36);
         near(random, n, field)
     }),
     ("subnormal numbers and zeros", |random, n| {
@@ -99,7 +101,7 @@ fn every(random: &mut Random, n: usize, make: impl Fn(&mut Random, u32) -> u32) 
 
 fn powers(random: &mut Random, n: usize) -> Vec<u32> {
     every(random, n, |random, _| {
-        let word = (1u32 << random.below(32)).wrapping_add(random.below(3)).wrapping_sub(1);
+        let word = (1u32 << random.word_below(32)).wrapping_add(random.word_below(3)).wrapping_sub(1);
         if random.once_in(2) { word } else { word.wrapping_neg() }
     })
 }
@@ -109,7 +111,7 @@ fn smooth_integers(random: &mut Random, n: usize) -> Vec<u32> {
     every(random, n, |random, place| {
         let (i, j) = (place % 4, place / 4);
         let curve = a.wrapping_add(b.wrapping_mul(i)).wrapping_sub(c.wrapping_mul(j * j));
-        curve.wrapping_add(random.below(8))
+        curve.wrapping_add(random.word_below(8))
     })
 }
 
@@ -118,21 +120,21 @@ fn readings(random: &mut Random, n: usize) -> Vec<u32> {
     let start = random.between(0, 120) as i32 - 40;
     let as_floats = random.once_in(2);
     every(random, n, |random, place| {
-        let tenths = start + random.below(4) as i32 - (place % 4) as i32;
+        let tenths = start + random.word_below(4) as i32 - (place % 4) as i32;
         if as_floats { (tenths as f32 / 10.0).to_bits() } else { tenths as u32 }
     })
 }
 
 fn smooth_floats(random: &mut Random, n: usize) -> Vec<u32> {
     let scale = f32::from_bits(random.between(1, 250) << 23);
-    let slope = random.below(1000) as f32 / 4000.0;
+    let slope = random.word_below(1000) as f32 / 4000.0;
     every(random, n, |_, place| (scale * (1.0 + slope * (place % 4) as f32 - place as f32 / 64.0)).to_bits())
 }
 
 /// Finite floats whose exponent fields are at most `field`, the first one's being that.
 fn near(random: &mut Random, n: usize, field: u32) -> Vec<u32> {
     every(random, n, |random, place| {
-        let down = if place == 0 { 0 } else { random.below(40) };
+        let down = if place == 0 { 0 } else { random.word_below(40) };
         field.saturating_sub(down) << 23 | random.word() & (SIGN | FRACTION)
     })
 }
@@ -142,7 +144,7 @@ fn near(random: &mut Random, n: usize, field: u32) -> Vec<u32> {
 fn multiples(random: &mut Random, n: usize) -> Vec<u32> {
     let field = random.between(1, 254);
     every(random, n, |random, place| {
-        let down = if place == 0 { 0 } else { random.below(30.min(field)) };
+        let down = if place == 0 { 0 } else { random.word_below(30.min(field)) };
         let last = down.saturating_sub(if random.once_in(40) { 7 } else { 6 });
         random.word() & SIGN | (field - down) << 23 | (random.word() | 1) << last & FRACTION
     })
@@ -152,8 +154,8 @@ fn multiples(random: &mut Random, n: usize) -> Vec<u32> {
 fn longest(random: &mut Random, n: usize) -> Vec<u32> {
     let dimension = if n == 4 { 1 } else { 2 };
     let step = if random.once_in(2) { transform::sums } else { transform::unlift };
-    let shift = random.below(32);
-    let coefficients = every(random, n, |random, _| (u32::MAX ^ 1 << random.below(32)) << shift);
+    let shift = random.word_below(32);
+    let coefficients = every(random, n, |random, _| (u32::MAX ^ 1 << random.word_below(32)) << shift);
     transform::from_coefficients(&coefficients, dimension, step)
 }
 
@@ -168,7 +170,7 @@ pub fn block_of_field(random: &mut Random, n: usize, field: u32) -> Vec<u32> {
     let bits = random.between(0, 23);
     let spread = random.pick(&[1, 3, 8, 40]);
     every(random, n, |random, place| {
-        let down = if place == 0 { 0 } else { random.below(spread) };
+        let down = if place == 0 { 0 } else { random.word_below(spread) };
         let fraction = random.word() & FRACTION & FRACTION << (23 - bits);
         let block_begins = place == 0 && field == 0;
         // The first word is not 0, so that the block is not all zeros.

@@ -3,9 +3,9 @@
 use crate::compare::Comparison;
 use crate::libzfp::{Libzfp, checked};
 use crate::make::{MAKERS, any_block, block_of_field};
-use crate::random::Random;
 use crate::slots::{damage, headed_slot, random_slot, slot_of_e};
 use crate::tally::Origin;
+use random::Random;
 use reference::Params;
 
 /// Every kind, mode and dimension.

@@ -1,7 +1,7 @@
 //! Slots to read that no store has written.
 
 use crate::bits::padded;
-use crate::random::Random;
+use random::Random;
 use reference::bits::number;
 use reference::params::{Checked, Kind, Mode};
 use reference::planes;
@@ -9,14 +9,14 @@ use reference::planes;
 /// Random bits, few or many of them ones, in the whole slot or at its beginning.
 pub fn random_slot(random: &mut Random, width: usize) -> Vec<bool> {
     let often = random.pick(&[1, 2, 2, 3, 5, 10, 40]);
-    let end = if random.once_in(2) { width } else { random.below(width as u32 + 1) as usize };
+    let end = if random.once_in(2) { width } else { random.below(width + 1) };
     let bits: Vec<bool> = (0..end).map(|t| random.once_in(often) || t == 0 && random.once_in(2)).collect();
     padded(&bits, width)
 }
 
 /// A good head, then the code of any coefficients, cut to the slot.
 pub fn headed_slot(random: &mut Random, p: &Checked) -> Vec<bool> {
-    let any = random.below(256);
+    let any = random.word_below(256);
     let e = random.pick(&[any, any, any, 0, 1, 6, 7, 8, 9, 28, 29, 30, 31, 254, 255]);
     slot_of_e(random, p, e)
 }
@@ -46,16 +46,18 @@ pub fn slot_of_e(random: &mut Random, p: &Checked, e: u32) -> Vec<bool> {
 
 /// Negabinary words of some magnitude, some of them 0.
 fn coefficients(random: &mut Random, n: usize) -> Vec<u32> {
-    let (high, low) = (random.below(12), random.below(24));
+    let (high, low) = (random.word_below(12), random.word_below(24));
     let often = random.between(1, 3);
-    (0..n).map(|_| if random.once_in(often) { random.word() >> high >> low << low } else { 0 }).collect()
+    (0..n)
+        .map(|_| if random.once_in(often as usize) { random.word() >> high >> low << low } else { 0 })
+        .collect()
 }
 
 /// Turns over some bits of a slot.
 pub fn damage(random: &mut Random, slot: &mut [bool]) {
     let count = random.pick(&[1, 1, 1, 2, 5, 30]);
     for _ in 0..count {
-        let t = random.below(slot.len() as u32) as usize;
+        let t = random.below(slot.len());
         slot[t] = !slot[t];
     }
 }

@@ -1,11 +1,11 @@
 //! The comparison with libzfp, for some seconds; for minutes with `WINDLASSOW_LONG=1`.
 
+use random::Random;
 use reference::{Params, bits, planes};
 use zfp::bits::{bits_of, padded};
 use zfp::classes::Class;
 use zfp::compare::Comparison;
 use zfp::libzfp::Libzfp;
-use zfp::random::Random;
 use zfp::report::{reading, writing};
 use zfp::run::run;
 use zfp::tally::Origin;

@@ -3,6 +3,7 @@
 //! Document 004 has an example of group testing. Document 002 has the largest sizes of blocks (its question 28), the
 //! precisions that lose nothing (21), a bound on the error (20), and how the modes stand for one another.
 
+use random::{Random, is_long};
 use reference::floats::{common_exponent, to_integer};
 use reference::transform::{from_coefficients, lift, sums, to_coefficients, unlift};
 use reference::words::{from_negabinary, to_negabinary};
@@ -11,7 +12,6 @@ use zfp::bits::padded;
 use zfp::compare::Comparison;
 use zfp::libzfp::{Libzfp, Setting, checked, shape};
 use zfp::make::any_block;
-use zfp::random::Random;
 use zfp::tally::Origin;
 
 const INTEGERS: u32 = 0;
@@ -21,10 +21,6 @@ const EXACT: u32 = 1;
 
 fn comparison() -> Comparison {
     Comparison::new(Libzfp::find().unwrap_or_else(|message| panic!("{message}")))
-}
-
-fn is_long() -> bool {
-    std::env::var("WINDLASSOW_LONG").is_ok_and(|value| value == "1")
 }
 
 fn rounds(count: usize) -> usize {
@@ -130,7 +126,7 @@ fn precisions_that_lose_no_integer() {
             let planes = b + 4 * dimension + 1;
             let p = Params { kind: INTEGERS, dimension, mode: LOSSY, planes, width: 1024 };
             for _ in 0..rounds(200) {
-                let small = random.below(b);
+                let small = random.word_below(b);
                 let mut word = || ((random.word() as i32 >> (32 - b + small)) << (31 - b)) as u32;
                 let words: Vec<u32> = (0..4usize.pow(dimension)).map(|_| word()).collect();
                 assert_eq!(stored_and_read(&mut comparison, &p, &words), words, "{b} bits");
@@ -179,7 +175,7 @@ fn half_unit(word: u32) -> f64 {
 fn floats(random: &mut Random, dimension: u32) -> Vec<u32> {
     let field = random.between(60, 250);
     (0..4usize.pow(dimension))
-        .map(|_| (field - random.below(30)) << 23 | random.word() & 0x807F_FFFF)
+        .map(|_| (field - random.word_below(30)) << 23 | random.word() & 0x807F_FFFF)
         .collect()
 }
 

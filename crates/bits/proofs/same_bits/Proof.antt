@@ -23,26 +23,35 @@ abbrev μ-loop : tie.MeasureT-loop
 loop-holds : tie.Need-loop-holds Inv-loop μ-loop
 loop-holds c = (search needs, simp add-zero)
 
-add-get : tie.Need-add-get Inv-loop μ-loop
-add-get c = search needs
+sub-least : tie.Need-sub-least Inv-loop μ-loop
+sub-least c = search needs
 
-get-requires : tie.Need-get-requires Inv-loop μ-loop
-get-requires c κs = search needs
+least-requires : tie.Need-least-requires Inv-loop μ-loop
+least-requires c κs = search needs
 
-add-get-2 : tie.Need-add-get-2 Inv-loop μ-loop
-add-get-2 c = search needs
+add-get-bits : tie.Need-add-get-bits Inv-loop μ-loop
+add-get-bits c = search needs
 
-get-requires-2 : tie.Need-get-requires-2 Inv-loop μ-loop
-get-requires-2 c κs = search needs
+get-bits-requires : tie.Need-get-bits-requires Inv-loop μ-loop
+get-bits-requires c κs = search needs
+
+add-get-bits-2 : tie.Need-add-get-bits-2 Inv-loop μ-loop
+add-get-bits-2 c = search needs
+
+get-bits-requires-2 : tie.Need-get-bits-requires-2 Inv-loop μ-loop
+get-bits-requires-2 c κs = search needs
 
 returns : tie.Need-returns Inv-loop μ-loop
 returns c =
-    let l = c .before .before .before .before .loop in
-    let s = c .before .before .before .before .before .before .before in
+    let part = c .before .before .before in
+    let l = part .before .before .loop in
+    let s = c .before .before .before .before .before .before .before .before in
+    let first = c .before .before .get-bits in
     sym (
     l .inv .1
-    ∙ same-differ (bitsOf (s .args .a .now)) (bitsOf (s .args .b .now)) (s .args .at) (s .args .from) (l .i) (s .args .count) (c .before .before .before .loop-test .taken)
-    (omega (arith, length-bitsOf (s .args .a .now))) (omega (arith, length-bitsOf (s .args .b .now))) _ _ (c .before .before .get .ensures) (c .before .get2 .ensures) (c .if1 .taken)
+    ∙ same-differ (bitsOf (s .args .a .now)) (bitsOf (s .args .b .now)) (s .args .at) (s .args .from) (l .i) (part .least .result) (s .args .count)
+    (omega (arith, part .least .ensures)) (omega (arith, length-bitsOf (s .args .a .now))) (omega (arith, length-bitsOf (s .args .b .now)))
+    (rw (← (first .ensures), ← (c .before .get-bits2 .ensures)) (omega arith))
     )
 
 add-i : tie.Need-add-i Inv-loop μ-loop
@@ -53,12 +62,15 @@ loop-less c = search needs
 
 loop-again : tie.Need-loop-again Inv-loop μ-loop
 loop-again c =
-    let l = c .before .before .before .before .loop in
-    let s = c .before .before .before .before .before .before .before in (
+    let part = c .before .before .before in
+    let l = part .before .before .loop in
+    let s = c .before .before .before .before .before .before .before .before in
+    let first = c .before .before .get-bits in (
       search needs,
       l .inv .1
-          ∙ same-next (bitsOf (s .args .a .now)) (bitsOf (s .args .b .now)) (s .args .at) (s .args .from) (l .i) (s .args .count) (c .before .before .before .loop-test .taken)
-          (omega (arith, length-bitsOf (s .args .a .now))) (omega (arith, length-bitsOf (s .args .b .now))) _ _ (c .before .before .get .ensures) (c .before .get2 .ensures) (c .if1 .left),
+          ∙ same-next (bitsOf (s .args .a .now)) (bitsOf (s .args .b .now)) (s .args .at) (s .args .from) (l .i) (part .least .result) (s .args .count)
+          (omega (arith, part .least .ensures)) (omega (arith, length-bitsOf (s .args .a .now))) (omega (arith, length-bitsOf (s .args .b .now)))
+          (rw (← (first .ensures), ← (c .before .get-bits2 .ensures)) (omega arith)),
     )
 
 returns-2 : tie.Need-returns-2 Inv-loop μ-loop
@@ -76,10 +88,12 @@ same-bits-spec =
     Inv-loop
     μ-loop
     loop-holds
-    add-get
-    get-requires
-    add-get-2
-    get-requires-2
+    sub-least
+    least-requires
+    add-get-bits
+    get-bits-requires
+    add-get-bits-2
+    get-bits-requires-2
     returns
     add-i
     loop-less

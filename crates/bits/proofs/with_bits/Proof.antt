@@ -4,13 +4,23 @@ use Rattle.bits.specs.Stream.{withBits}
 use lib.Pow.{pow-pos, pow-mono}
 use native.Mathlib.Omega.{arith}
 use native.Mathlib.Nat.{mod-lt, lt-of-lt-of-le}
+use mathlib.Core.Path.{refl}
 use borrow.Author.Needs.{needs}
 use Rattle.bits.proofs.with_bits.Statement.{statement}
 use Rattle.bits.proofs.with_bits.Tie as tie
 
 returns : tie.Need-returns
 unfolding withBits
-returns c = cc
+returns c =
+    rw (
+      c .low2 .ensures,
+      c .before .wide2 .ensures,
+      c .before .before .moved .ensures,
+      c .before .before .before .low .ensures,
+      c .before .before .before .before .high .ensures,
+      c .before .before .before .before .before .wide .ensures,
+    )
+    refl
 
 wide-requires : tie.Need-wide-requires
 wide-requires c κs = search needs

@@ -1,4 +1,5 @@
 -- A bit put below a number. Assumes nothing.
+use Rattle.bits.proofs.NumberLaws.{digit-lt}
 use native.Mathlib.Omega.{arith}
 use borrow.Author.Needs.{needs}
 use Rattle.bits.proofs.with_digit.Statement.{statement}
@@ -7,17 +8,14 @@ use Rattle.bits.proofs.with_digit.Tie as tie
 mul-result : tie.Need-mul-result
 mul-result c = search needs
 
-add-result : tie.Need-add-result
-add-result c = search needs
+digit-of-requires : tie.Need-digit-of-requires
+digit-of-requires c κs = search needs
 
-mul-result-2 : tie.Need-mul-result-2
-mul-result-2 c = search needs
+add-result : tie.Need-add-result
+add-result c = omega (arith, c .digit-of .ensures, digit-lt (c .before .args .b))
 
 returns : tie.Need-returns
-returns c = rw (c .if1 .taken) (omega arith)
-
-returns-2 : tie.Need-returns-2
-returns-2 c = rw (c .if1 .left) (omega arith)
+returns c = search needs
 
 pub with-digit-spec : {M : Type 1} → statement M
-with-digit-spec = tie.close (tie.spec mul-result add-result mul-result-2 returns returns-2)
+with-digit-spec = tie.close (tie.spec mul-result digit-of-requires add-result returns)

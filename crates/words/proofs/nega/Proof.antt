@@ -1,4 +1,5 @@
 -- `words::nega` meets its contract: the sum that wraps is what `wrapping_add_u32` ensures.
+use mathlib.Core.Path.{refl}
 use borrow.Author.Needs.{needs}
 use Rattle.words.specs.Word.{plus, nega}
 use Rattle.words.proofs.nega.Statement.{statement}
@@ -9,7 +10,7 @@ wrapping-add-u32-requires c κs = search needs
 
 returns : tie.Need-returns
 unfolding plus nega
-returns c = rw (c .wrapping-add-u32 .ensures)
+returns c = rw (c .wrapping-add-u32 .ensures) refl
 
 pub nega-spec : {M : Type 1} → statement M
 nega-spec = tie.close (tie.spec wrapping-add-u32-requires returns)

@@ -4,7 +4,8 @@
 //! words. The input comes from a file and the output goes to one. The slots are 33N + 4 bits wide, which every
 //! block fits.
 
-use listing::{Random, peak_kib, program};
+use listing::{peak_kib, program};
+use random::Random;
 use std::fs::{self, File};
 use std::io::{self, BufWriter, Read, Write};
 use std::path::PathBuf;

@@ -2,7 +2,7 @@
 
 use crate::make::{First, good_line};
 use crate::run::{compare, compare_from_file};
-use listing::Random;
+use random::Random;
 
 /// An ill-formed line that ends at the given place of the input, then good ones.
 fn input(random: &mut Random, first: First, end: usize) -> Vec<u8> {

@@ -2,7 +2,8 @@
 
 use crate::make::{First, good_line, input};
 use crate::run::{Temporary, command, compare_from_file, through_pipe};
-use listing::{Random, program, wait_for};
+use listing::{program, wait_for};
+use random::Random;
 use std::fs::File;
 use std::io::Read;
 use std::process::{Command, Stdio};

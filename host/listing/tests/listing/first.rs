@@ -2,7 +2,7 @@
 
 use crate::make::{First, WRONG, line_of};
 use crate::run::{compare, lists};
-use listing::{Random, is_long};
+use random::{Random, is_long};
 
 const GOOD: &str = "000101200030\n";
 const ONES: &str = "00000001000000010000000100000001\n";

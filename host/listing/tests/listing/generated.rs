@@ -2,7 +2,7 @@
 
 use crate::make::{First, WIDTHS, any_line, good_line, input, line_of};
 use crate::run::compare;
-use listing::{Random, is_long};
+use random::{Random, is_long};
 use std::ops::Range;
 
 /// How often each answer was expected.

@@ -2,7 +2,8 @@
 
 use crate::make::{First, any_line, good_line};
 use crate::run::{command, compare, compare_from_file};
-use listing::{Random, is_long, wait_for};
+use listing::wait_for;
+use random::{Random, is_long};
 use std::io::{Read, Write};
 use std::process::Stdio;
 use std::time::Duration;

@@ -1,6 +1,6 @@
 //! Inputs for the listing program.
 
-use listing::Random;
+use random::Random;
 
 /// The numbers of a first line.
 #[derive(Clone, Copy)]

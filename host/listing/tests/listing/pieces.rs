@@ -2,7 +2,7 @@
 
 use crate::make::{First, any_line, good_line, input};
 use crate::run::compare_in_pieces;
-use listing::{Random, is_long};
+use random::{Random, is_long};
 
 fn mixed(random: &mut Random, dimension: u32, lines: usize) -> Vec<u8> {
     let first = First { dimension, width: 47, ..First::good(random) };

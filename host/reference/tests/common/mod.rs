@@ -1,6 +1,7 @@
 //! What several test files use.
-#![allow(dead_code)]
+#![allow(dead_code, unused_imports)]
 
+pub use random::Random;
 use reference::{Params, Reply};
 
 pub const EXACT: u32 = 1;
@@ -40,24 +41,4 @@ pub fn bytes_of(bits: &[bool], len: usize) -> Vec<u8> {
         reference::bits::set(&mut bytes, t, bit);
     }
     bytes
-}
-
-/// Marsaglia's xorshift generator of 64 bits.
-pub struct Random(pub u64);
-
-impl Random {
-    pub fn next(&mut self) -> u64 {
-        self.0 ^= self.0 << 13;
-        self.0 ^= self.0 >> 7;
-        self.0 ^= self.0 << 17;
-        self.0
-    }
-
-    pub fn word(&mut self) -> u32 {
-        (self.next() >> 32) as u32
-    }
-
-    pub fn below(&mut self, end: usize) -> usize {
-        ((self.next() >> 32) as usize * end) >> 32
-    }
 }

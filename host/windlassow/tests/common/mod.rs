@@ -1,61 +1,10 @@
 //! What both comparisons use.
-#![allow(dead_code)]
+#![allow(dead_code, unused_imports)]
 
+pub use random::{Random, is_long, rounds};
 use reference::Reply;
 use std::ops::{Deref, DerefMut};
 use windlassow::Refusal;
-
-/// Marsaglia's xorshift generator of 64 bits, multiplied at the end.
-pub struct Random(u64);
-
-impl Random {
-    /// A generator of its own for every test, with a fixed seed.
-    pub fn new(seed: u64) -> Random {
-        Random(seed.wrapping_mul(0x9E37_79B9_7F4A_7C15) | 1)
-    }
-
-    pub fn next(&mut self) -> u64 {
-        self.0 ^= self.0 >> 12;
-        self.0 ^= self.0 << 25;
-        self.0 ^= self.0 >> 27;
-        self.0.wrapping_mul(0x2545_F491_4F6C_DD1D)
-    }
-
-    pub fn word(&mut self) -> u32 {
-        (self.next() >> 32) as u32
-    }
-
-    pub fn byte(&mut self) -> u8 {
-        (self.next() >> 56) as u8
-    }
-
-    /// A number from 0 to end - 1.
-    pub fn below(&mut self, end: usize) -> usize {
-        ((self.next() >> 32) as usize * end) >> 32
-    }
-
-    /// True once in `often` times.
-    pub fn once_in(&mut self, often: usize) -> bool {
-        self.below(often) == 0
-    }
-
-    pub fn pick<T: Copy>(&mut self, from: &[T]) -> T {
-        from[self.below(from.len())]
-    }
-
-    pub fn bytes(&mut self, len: usize) -> Vec<u8> {
-        (0..len).map(|_| self.byte()).collect()
-    }
-}
-
-/// The number of rounds: as given by default, forty times as many with `WINDLASSOW_LONG=1`.
-pub fn rounds(count: usize) -> usize {
-    if is_long() { 40 * count } else { count }
-}
-
-pub fn is_long() -> bool {
-    std::env::var("WINDLASSOW_LONG").is_ok_and(|value| value == "1")
-}
 
 /// The outcome of the library's call in the shape of the reference's.
 pub fn reply(outcome: Result<usize, Refusal>) -> Reply {

@@ -8,7 +8,7 @@ pub const SIZES: [usize; 7] = [16, 32, 64, 128, 256, 512, 1024];
 
 /// What tables hold when they are lent does not matter.
 pub fn lent_table(random: &mut Random, len: usize) -> Vec<u64> {
-    if random.once_in(2) { vec![0; len] } else { (0..len).map(|_| random.next()).collect() }
+    if random.once_in(2) { vec![0; len] } else { (0..len).map(|_| random.bits()).collect() }
 }
 
 /// Writes with both and compares reply, output and tables. Gives the reply.
@@ -40,7 +40,7 @@ pub fn compare_read(
     room: usize,
 ) -> (Reply, Vec<u64>) {
     let (f, d) = (lent_table(random, sizes.0), lent_table(random, sizes.1));
-    let doubles: Vec<u64> = (0..room).map(|_| random.next()).collect();
+    let doubles: Vec<u64> = (0..room).map(|_| random.bits()).collect();
     let (mut f1, mut d1, mut doubles1) = (f.clone(), d.clone(), doubles.clone());
     let expected = reference::fpc_read(&mut f1, &mut d1, stream, &mut doubles1);
     let (mut f2, mut d2, mut doubles2) =

@@ -1,34 +1,40 @@
 -- The invariant: no plane below the p top ones has a one. Assumes nothing.
-use borrow.Author.Needs.{needs}
 use Rattle.codec.proofs.Needed.{least-found, least-next, least-one}
 use Rattle.codec.specs.Head.{leastPlanes, planesNeeded}
+use borrow.Author.Tests.{eq-eqb, ne-eqb}
 use native.Mathlib.Omega.{arith}
-use Prim.Native.Nat.{ℕ, _≤_}
+use Prim.Native.Nat.{ℕ, _-_, _≤_}
 use mathlib.Core.Path.{_≡_, refl, sym, ap, _∙_}
+use borrow.Author.Needs.{needs}
 use Rattle.codec.proofs.writer.planes_needed.Statement.{statement}
 use Rattle.codec.proofs.writer.planes_needed.Tie as tie
 
 abbrev Inv-loop : tie.InvT-loop
-Inv-loop us p₀ p = (1 ≤ p) × (p ≤ 32) × (leastPlanes 32 p us ≡ planesNeeded 32 us)
+Inv-loop us ones p₀ p = (1 ≤ p) × (p ≤ 32) × (leastPlanes 32 p us ≡ planesNeeded 32 us)
 
 abbrev μ-loop : tie.MeasureT-loop
-μ-loop us p₀ p = p
+μ-loop us ones p₀ p = p
+
+planes-with-ones-requires : tie.Need-planes-with-ones-requires Inv-loop μ-loop
+planes-with-ones-requires c κs = search needs
 
 loop-holds : tie.Need-loop-holds Inv-loop μ-loop
 unfolding planesNeeded
 loop-holds c = (search needs, search needs, refl)
 
-sub-any-one : tie.Need-sub-any-one Inv-loop μ-loop
-sub-any-one c = search needs
+sub-if1 : tie.Need-sub-if1 Inv-loop μ-loop
+sub-if1 c = search needs
 
-any-one-requires : tie.Need-any-one-requires Inv-loop μ-loop
-any-one-requires c κs = search needs
+shr-if1 : tie.Need-shr-if1 Inv-loop μ-loop
+shr-if1 c = search needs
 
 returns : tie.Need-returns Inv-loop μ-loop
 returns c =
-    let l = c .before .before .before .loop in
-    let us = c .before .before .before .before .before .args .us .now in
-    sym (sym (l .inv .2) ∙ least-found 32 (l .p) us (omega arith) (sym (c .before .any-one .ensures) ∙ c .if1 .taken))
+    let l = c .before .before .loop in
+    let call = c .before .before .before in
+    let us = call .before .before .args .us .now in
+    let one = sym (call .planes-with-ones .ensures (32 - l .p)) ∙ eq-eqb _ 1 (c .if1 .taken) in
+    sym (sym (l .inv .2) ∙ least-found 32 (l .p) us (omega arith) one)
 
 sub-p : tie.Need-sub-p Inv-loop μ-loop
 sub-p c = search needs
@@ -38,14 +44,16 @@ loop-less c = search needs
 
 loop-again : tie.Need-loop-again Inv-loop μ-loop
 loop-again c =
-    let l = c .before .before .before .loop in
-    let us = c .before .before .before .before .before .args .us .now in
-    (search needs, search needs, sym (least-next 32 (l .p) us (omega arith) (sym (c .before .any-one .ensures) ∙ c .if1 .left)) ∙ l .inv .2)
+    let l = c .before .before .loop in
+    let call = c .before .before .before in
+    let us = call .before .before .args .us .now in
+    let none = sym (call .planes-with-ones .ensures (32 - l .p)) ∙ ne-eqb _ 1 (c .if1 .left) in
+    (search needs, search needs, sym (least-next 32 (l .p) us (omega arith) none) ∙ l .inv .2)
 
 returns-2 : tie.Need-returns-2 Inv-loop μ-loop
 returns-2 c =
     let l = c .before .loop in
-    let us = c .before .before .before .args .us .now in
+    let us = c .before .before .before .before .args .us .now in
     let e : l .p ≡ 1 = omega arith in
     sym (sym (l .inv .2) ∙ ap (λ (n : ℕ). leastPlanes 32 n us) e ∙ least-one 32 us)
 
@@ -55,9 +63,10 @@ planes-needed-spec =
     (tie.spec
     Inv-loop
     μ-loop
+    planes-with-ones-requires
     loop-holds
-    sub-any-one
-    any-one-requires
+    sub-if1
+    shr-if1
     returns
     sub-p
     loop-less

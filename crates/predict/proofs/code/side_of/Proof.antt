@@ -1,4 +1,5 @@
 -- `predict::code::side_of` meets its contract: each side of the test is a case of `side`. Assumes nothing.
+use mathlib.Core.Path.{refl}
 use borrow.Author.Tests.{lt-ltb, le-ltb}
 use Rattle.predict.specs.Predictors.{side}
 use Rattle.predict.proofs.code.side_of.Statement.{statement}
@@ -6,7 +7,7 @@ use Rattle.predict.proofs.code.side_of.Tie as tie
 
 returns : tie.Need-returns
 unfolding side
-returns c = rw (lt-ltb _ _ (c .if1 .taken))
+returns c = rw (lt-ltb _ _ (c .if1 .taken)) refl
 
 returns-2 : tie.Need-returns-2
 unfolding side

@@ -1,4 +1,5 @@
 -- A width of 0 stands for 8N. Assumes nothing.
+use mathlib.Core.Path.{refl}
 use native.Mathlib.Omega.{arith}
 use borrow.Author.Tests.{eq-eqb, ne-eqb}
 use Rattle.slots.proofs.RowLaws.{power-within}
@@ -16,7 +17,7 @@ cast-result : tie.Need-cast-result
 cast-result c = search needs
 
 returns : tie.Need-returns
-returns c = rw (eq-eqb (c .before .before .args .p .width) 0 (c .before .if1 .taken), c .word-count .ensures)
+returns c = rw (eq-eqb (c .before .before .args .p .width) 0 (c .before .if1 .taken), c .word-count .ensures) refl
 
 returns-2 : tie.Need-returns-2
 returns-2 c = rw (ne-eqb (c .before .args .p .width) 0 (c .if1 .left))
