@@ -23,8 +23,8 @@ use Rattle.bits.specs.Stream.{write}
 use Rattle.slots.specs.Rules.{slotsIn, codeOf}
 use Rattle.slots.specs.Outcome.{storeOutcome}
 use mathlib.Core.List.{flatMap}
-use Rattle.frames.specs.Hex.{hexDigit, digitValue}
-use Rattle.frames.specs.Listing.{wellFormed, parametersOf, firstAnswer, answerLine, slotBytes, storedLine, blockLine}
+use Rattle.lines.specs.Hex.{hexDigit, digitValue}
+use Rattle.lines.specs.Line.{wellFormed, parametersOf, firstAnswer, answerLine, slotBytes, storedLine, blockLine}
 use Rattle.claims.specs.Table.{Table}
 
 -- everything that the cases compute with

@@ -4,7 +4,7 @@ use mathlib.Core.List as list
 use Prim.Native.Nat.{ℕ}
 use Prim.Native.Char.{code}
 use Prim.Native.String.{String, [], _∷_}
-use Rattle.frames.specs.Listing.{newline}
+use Rattle.lines.specs.Line.{newline}
 
 abbrev pub text : String → List ℕ
 text [] = list.[]

@@ -13,9 +13,9 @@ use Rattle.slots.specs.declared.Params.{Params}
 use Rattle.slots.specs.Rules.{first, parameterRows, wordCount}
 use Rattle.slots.specs.Outcome.{storeOutcome}
 use Rattle.slots.proofs.RowLaws.{good}
-use Rattle.frames.specs.Hex.{allDigits}
-use Rattle.frames.specs.Listing.{Line, wellFormed, firstDigits, parametersOf, firstAnswer, answerLine, illFormed, wordsOf, slotBytes, storedLine, blockDigits, blockLine}
-use Rattle.frames.specs.Pieces.{State, mostHeld, goodParameters, firstLine, firstParameters, noParameters, laterLine, answerTo, nextLine, hold}
+use Rattle.lines.specs.Hex.{allDigits}
+use Rattle.lines.specs.Line.{Line, wellFormed, firstDigits, parametersOf, firstAnswer, answerLine, illFormed, wordsOf, slotBytes, storedLine, blockDigits, blockLine, goodParameters, firstLine, firstParameters, noParameters, laterLine}
+use Rattle.frames.specs.Pieces.{State, mostHeld, answerTo, nextLine, hold}
 
 pub clip-append : (n : ℕ) (a b : List ℕ) → take n (take n a ++ b) ≡ take n (a ++ b)
 clip-append zero a b = refl

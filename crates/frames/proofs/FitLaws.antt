@@ -12,9 +12,9 @@ use Rattle.slots.specs.declared.Params.{Params}
 use Rattle.slots.specs.Rules.{first, parameterRows, wordCount}
 use Rattle.slots.specs.Outcome.{Stored, storeOutcome}
 use Rattle.slots.proofs.RowLaws.{good}
-use Rattle.frames.specs.Listing.{newline, Line, wellFormed, firstAnswer, answerLine, illFormed, bytesOf, wordsOf, slotBytes, storedLine, blockDigits, blockLine}
-use Rattle.frames.specs.Pieces.{State, longestLine, goodParameters, firstLine, lineOf, laterLine, answerTo, nextLine, hold, run, nothingLeft, ending, taken}
-use Rattle.frames.proofs.PutLaws.{length-answer}
+use Rattle.lines.specs.Line.{newline, Line, wellFormed, firstAnswer, answerLine, illFormed, bytesOf, wordsOf, slotBytes, storedLine, blockDigits, blockLine, longestLine, goodParameters, firstLine, laterLine}
+use Rattle.frames.specs.Pieces.{State, lineOf, answerTo, nextLine, hold, run, nothingLeft, ending, taken}
+use Rattle.lines.proofs.PutLaws.{length-answer}
 use Rattle.frames.proofs.PieceLaws.{run-newline, run-byte, Going}
 
 length-bytesOf : (n : ℕ) (bits : List Bool) → length (bytesOf n bits) ≡ n

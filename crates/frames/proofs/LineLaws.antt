@@ -1,18 +1,17 @@
 -- Laws of the bytes up to a newline. Assumes nothing.
 use mathlib.Core.Path.{_≡_, refl, sym, ap, _∙_}
-use mathlib.Core.Bool.{Bool, true, false, _&&_, cond, and-eq-true-iff}
+use mathlib.Core.Bool.{Bool, true, false, _&&_, cond}
 use mathlib.Core.List.{List, [], _∷_, _++_}
 use Prim.Native.Nat.{ℕ, zero, suc, _+_, _-_, _≤_, _<_, min}
 use native.Mathlib.Decide.{decLe}
 use native.Mathlib.Omega.{arith}
-use borrow.Author.Tests.{eq-eqb, ne-eqb, eqb-true}
+use borrow.Author.Tests.{ne-eqb}
 use lib.Dec.{eqb}
 use lib.ListN.{length, take, drop, getD, drop-of-length-le, length-take, length-drop}
 use lib.Seq.{slice, paste, drop-cons, take-all, take-take, length-take-le, take-paste, take-append-add}
-use Rattle.frames.specs.Hex.{allDigits}
-use Rattle.frames.specs.Listing.{newline, Line, wellFormed}
+use Rattle.lines.specs.Line.{newline}
 use Rattle.frames.specs.Pieces.{beforeNewline, lineLength}
-use Rattle.frames.proofs.PutLaws.{slice-take}
+use Rattle.lines.proofs.PutLaws.{slice-take}
 
 -- ---- at a place of a piece
 
@@ -60,12 +59,3 @@ held-more line piece bytes len n m from to en em h hp e =
     ∙ sym (ap (λ (z : List ℕ). take k (take n line ++ z)) (ap (λ (j : ℕ). slice from j piece) t ∙ slice-take from (to - from) piece)
     ∙ ap (λ (j : ℕ). take j (take n line ++ take (to - from) d)) w
     ∙ take-append-add (take n line) (take (to - from) d) (k - n)))
-
--- ---- well-formed lines
-
-pub formed-length : (digits : ℕ) (l : Line) → wellFormed digits l ≡ true → length (l .bytes) ≡ digits
-unfolding wellFormed
-formed-length digits l e =
-    let n = eqb (length (l .bytes)) digits in
-    let h = and-eq-true-iff (l .ended) (n && allDigits (l .bytes)) .0 e in
-    eqb-true (length (l .bytes)) digits (and-eq-true-iff n (allDigits (l .bytes)) .0 (h .1) .0)

@@ -11,9 +11,9 @@ use lib.Dec.{eqb, leb}
 use lib.ListN.{length, take, drop, length-append, length-drop, drop-of-length-le}
 use lib.Seq.{slice, sets, length-sets, take-add, drop-drop, take-all}
 use Rattle.bits.proofs.WriteLaws.{sets-append}
-use Rattle.frames.specs.Listing.{newline}
-use Rattle.frames.specs.Pieces.{State, mostHeld, longestLine, answerTo, nextLine, hold, Ran, run, taken, Put, beforeNewline, lineLength, Fed}
-use Rattle.frames.proofs.PutLaws.{slice-take}
+use Rattle.lines.specs.Line.{newline, longestLine, Put}
+use Rattle.frames.specs.Pieces.{State, mostHeld, answerTo, nextLine, hold, Ran, run, taken, beforeNewline, lineLength, Fed}
+use Rattle.lines.proofs.PutLaws.{slice-take}
 use Rattle.frames.proofs.ClipLaws.{clip-append, answer-hold, next-hold}
 
 -- ---- bytes one after the other

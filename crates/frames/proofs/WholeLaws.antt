@@ -10,8 +10,9 @@ use lib.Dec.{eqb, leb}
 use lib.ListN.{length, take, drop}
 use Rattle.slots.specs.declared.Params.{Params}
 use Rattle.slots.specs.Rules.{first, parameterRows}
-use Rattle.frames.specs.Listing.{newline, Line, lastLine, linesAfter, wellFormed, firstDigits, parametersOf, firstAnswer, answerLine, blockLine, listLines, listing}
-use Rattle.frames.specs.Pieces.{State, start, mostHeld, longestLine, goodParameters, noParameters, firstLine, firstParameters, lineOf, laterLine, answerTo, nextLine, hold, Ran, run, nothingLeft, ending, taken, feedAll}
+use Rattle.lines.specs.Line.{newline, Line, wellFormed, firstDigits, parametersOf, firstAnswer, answerLine, blockLine, longestLine, goodParameters, noParameters, firstLine, firstParameters, laterLine}
+use Rattle.frames.specs.Listing.{lastLine, linesAfter, listLines, listing}
+use Rattle.frames.specs.Pieces.{State, start, mostHeld, lineOf, answerTo, nextLine, hold, Ran, run, nothingLeft, ending, taken, feedAll}
 use Rattle.frames.proofs.ClipLaws.{clip-append, answer-clip, next-clip}
 use Rattle.frames.proofs.PieceLaws.{run-newline, run-byte, run-append-state, run-append-output}
 

@@ -1,4 +1,3 @@
--- The definitions that the contracts of `frames` cite: hexadecimal, the listing of a whole input, and the listing piece by piece.
-pub mod Hex
+-- The definitions that the contracts of `frames` cite: the listing of a whole input, and the listing piece by piece.
 pub mod Listing
 pub mod Pieces

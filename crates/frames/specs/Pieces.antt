@@ -7,9 +7,8 @@ use lib.Dec.{eqb, leb}
 use lib.ListN.{length, take}
 use lib.Seq.{sets}
 use Rattle.slots.specs.declared.Params.{Params}
-use Rattle.slots.specs.Rules.{first, parameterRows}
 use Rattle.frames.specs.declared.Partial.{Partial}
-use Rattle.frames.specs.Listing.{newline, Line, wellFormed, firstDigits, parametersOf, firstAnswer, answerLine, blockLine}
+use Rattle.lines.specs.Line.{newline, Line, goodParameters, noParameters, firstLine, firstParameters, laterLine, longestLine, Put}
 
 -- whether the first line is done; its parameters; the line so far
 pub record State : Type 0 where
@@ -21,23 +20,12 @@ pub record State : Type 0 where
 abbrev pub mostHeld : ℕ
 mostHeld = 129
 
--- the longest line that is written: answer, count, 128 bytes, newline
-abbrev pub longestLine : ℕ
-longestLine = 263
-
 -- the state that a program's value stands for
 unfoldable pub stateOf : Partial → State
 stateOf s = record { started = s .started; params = s .params; held = take (s .len) (s .line) }
 
--- no parameters that a block could be stored with: dimension 0
-abbrev pub noParameters : Params
-noParameters = record { kind = 0; dimension = 0; mode = 0; planes = 0; width = 0 }
-
 abbrev pub start : State
 start = record { started = false; params = noParameters; held = [] }
-
-abbrev pub goodParameters : Params → Bool
-goodParameters p = eqb (first (parameterRows p)) 0
 
 -- whether the first line was bad: "the program stops"
 unfoldable pub stopped : State → Bool
@@ -45,19 +33,8 @@ stopped s = s .started && not (goodParameters (s .params))
 
 -- ---- the end of a line
 
--- what a first line gives: nothing if it is good
-abbrev pub firstLine : Line → List ℕ
-firstLine l = cond (eqb (firstAnswer l) 0) [] (answerLine (firstAnswer l) 0 [])
-
-abbrev pub firstParameters : Line → Params
-firstParameters l = cond (wellFormed firstDigits l) (parametersOf (l .bytes)) noParameters
-
 abbrev pub lineOf : State → Bool → Line
 lineOf s ended = record { bytes = s .held; ended = ended }
-
--- what a later line gives: nothing after a bad first line
-abbrev pub laterLine : Params → Line → List ℕ
-laterLine p l = cond (goodParameters p) (blockLine p l) []
 
 -- what the line that is held gives
 unfoldable pub answerTo : State → Bool → List ℕ
@@ -109,11 +86,6 @@ taken s (b ∷ bs) room =
     0
 
 -- ---- what the functions do
-
--- bytes were put from place `at` on, and `next` is the place after them
-pub record Put (before after : List ℕ) (at : ℕ) (bytes : List ℕ) (next : ℕ) : Type 0 where
-  pub stored : after ≡ sets before at bytes
-  pub moved : next ≡ at + length bytes
 
 -- how many bytes stand before the first newline
 abbrev pub beforeNewline : List ℕ → ℕ

@@ -6,11 +6,9 @@ ghost use lib.ListN.{length, take, drop};
 ghost use lib.Seq.{slice, paste};
 ghost use mathlib.Core.Bool.{cond};
 ghost use lib.Dec.{eqb, leb};
-ghost use Rattle.frames.specs.Pieces.{stateOf, start, stopped, answerTo, nextLine, hold, beforeNewline, lineLength, taken, nothingLeft, ending, longestLine, Put, Fed};
+ghost use Rattle.lines.specs.Line.{longestLine, Put};
+ghost use Rattle.frames.specs.Pieces.{stateOf, start, stopped, answerTo, nextLine, hold, beforeNewline, lineLength, taken, nothingLeft, ending, Fed};
 use slots::Params;
-
-pub mod hex;
-pub mod line;
 
 // What is kept between two pieces: whether the first line is done, its parameters, and the bytes of the line so far.
 pub struct Partial {
@@ -77,9 +75,9 @@ fn answer_line(s: Partial, ended: bool, out: &mut [u8], at: usize) -> usize
 {
     let bytes = s.line;
     if s.started {
-        line::block_line(s.params, held(&bytes, s.len), ended, out, at)
+        lines::block_line(s.params, held(&bytes, s.len), ended, out, at)
     } else {
-        line::first_line(held(&bytes, s.len), ended, out, at)
+        lines::first_line(held(&bytes, s.len), ended, out, at)
     }
 }
 
@@ -97,7 +95,7 @@ fn next_line(s: Partial) -> Partial
             len: 0,
         };
     }
-    let params = line::first_parameters(held(&bytes, s.len), true);
+    let params = lines::first_parameters(held(&bytes, s.len), true);
     Partial {
         started: true,
         params,

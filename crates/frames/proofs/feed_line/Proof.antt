@@ -3,7 +3,7 @@ use mathlib.Core.Path.{_≡_, sym, ap, _∙_}
 use native.Mathlib.Omega.{arith}
 use lib.ListN.{drop, length-drop}
 use Rattle.frames.specs.Pieces.{stateOf, Ran, beforeNewline}
-use Rattle.frames.proofs.PutLaws.{put-none}
+use Rattle.lines.proofs.PutLaws.{put-none}
 use Rattle.frames.proofs.PieceLaws.{part, line-ended, line-rest}
 use borrow.Author.Needs.{needs}
 use Rattle.frames.proofs.feed_line.Statement.{statement}

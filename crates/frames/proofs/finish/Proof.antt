@@ -4,7 +4,7 @@ use mathlib.Core.Bool.{false}
 use native.Mathlib.Omega.{arith}
 use borrow.Author.Tests.{le-leb, lt-leb}
 use Rattle.frames.specs.Pieces.{stateOf}
-use Rattle.frames.proofs.PutLaws.{put-none}
+use Rattle.lines.proofs.PutLaws.{put-none}
 use Rattle.frames.proofs.FitLaws.{answer-length}
 use borrow.Author.Needs.{needs}
 use Rattle.frames.proofs.finish.Statement.{statement}
