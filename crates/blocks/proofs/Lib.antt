@@ -1,6 +1,7 @@
 -- The laws of blocks.
 pub mod Lists
 pub mod Steps
+pub mod Through
 pub mod Lines
 pub mod Trips
 pub mod Tables

@@ -5,7 +5,7 @@ ghost use mathlib.Core.Path.{_≡_};
 ghost use mathlib.Core.List.{map};
 ghost use Prim.Native.Nat.{_<_};
 ghost use lib.ListN.{getD};
-ghost use Rattle.words.specs.Word.{nega, unnega};
+ghost use Rattle.words.specs.Word.{Size, nega, unnega};
 ghost use Rattle.blocks.specs.Order.{order, reorder, restore};
 
 // By i + j, then by i^2 + j^2, ties by larger i first.
@@ -20,26 +20,28 @@ fn place(k: usize) -> usize
 }
 
 // The negabinary words in the order of coefficients.
-pub fn arranged(words: [u32; 16]) -> [u32; 16]
-    ensures { λ r. ⌜ r ≡ map (nega 32) (reorder (order 2) words) ⌝ }
+pub fn arranged(size: u32, words: [u64; 16]) -> [u64; 16]
+    requires { ⌜ Size size ⌝ }
+    ensures { λ r. ⌜ r ≡ map (nega size) (reorder (order 2) words) ⌝ }
 {
-    let mut out = [0u32; 16];
+    let mut out = [0u64; 16];
     let mut k = 0;
     while k < 16 {
-        out[k] = nega(words[place(k)]);
+        out[k] = nega(size, words[place(k)]);
         k += 1;
     }
     out
 }
 
 // The words of negabinary coefficients, each at its place.
-pub fn placed(cs: [u32; 16]) -> [u32; 16]
-    ensures { λ r. ⌜ r ≡ restore (order 2) (map (unnega 32) cs) ⌝ }
+pub fn placed(size: u32, cs: [u64; 16]) -> [u64; 16]
+    requires { ⌜ Size size ⌝ }
+    ensures { λ r. ⌜ r ≡ restore (order 2) (map (unnega size) cs) ⌝ }
 {
-    let mut out = [0u32; 16];
+    let mut out = [0u64; 16];
     let mut k = 0;
     while k < 16 {
-        out[place(k)] = unnega(cs[k]);
+        out[place(k)] = unnega(size, cs[k]);
         k += 1;
     }
     out

@@ -15,39 +15,53 @@ use words::nega;
 use words::unnega;
 ghost use mathlib.Core.Path.{_≡_};
 ghost use lib.ListN.{length};
+ghost use Rattle.words.specs.Word.{Size};
 ghost use Rattle.blocks.specs.Coefficients.{coefficients, values};
 
 // The coefficients of a block of dimension 1.
-pub fn coefficients4(words: &[u32], exact: bool) -> [u32; 4]
-    requires { ⌜ length (now words) ≡ 4 ⌝ }
-    ensures { λ r. ⌜ r ≡ coefficients 32 exact 1 (now (words .entry)) ⌝ }
+pub fn coefficients4(size: u32, words: &[u64], exact: bool) -> [u64; 4]
+    requires { ⌜ Size size × (length (now words) ≡ 4) ⌝ }
+    ensures { λ r. ⌜ r ≡ coefficients size exact 1 (now (words .entry)) ⌝ }
 {
-    let a = write_four([words[0], words[1], words[2], words[3]], exact);
-    [nega(a[0]), nega(a[1]), nega(a[2]), nega(a[3])]
+    let a = write_four(size, [words[0], words[1], words[2], words[3]], exact);
+    [
+        nega(size, a[0]),
+        nega(size, a[1]),
+        nega(size, a[2]),
+        nega(size, a[3]),
+    ]
 }
 
 // And back.
-pub fn values4(cs: [u32; 4], exact: bool) -> [u32; 4]
-    ensures { λ r. ⌜ r ≡ values 32 exact 1 cs ⌝ }
+pub fn values4(size: u32, cs: [u64; 4], exact: bool) -> [u64; 4]
+    requires { ⌜ Size size ⌝ }
+    ensures { λ r. ⌜ r ≡ values size exact 1 cs ⌝ }
 {
     read_four(
-        [unnega(cs[0]), unnega(cs[1]), unnega(cs[2]), unnega(cs[3])],
+        size,
+        [
+            unnega(size, cs[0]),
+            unnega(size, cs[1]),
+            unnega(size, cs[2]),
+            unnega(size, cs[3]),
+        ],
         exact,
     )
 }
 
 // The coefficients of a block of dimension 2.
-pub fn coefficients16(words: &[u32], exact: bool) -> [u32; 16]
-    requires { ⌜ length (now words) ≡ 16 ⌝ }
-    ensures { λ r. ⌜ r ≡ coefficients 32 exact 2 (now (words .entry)) ⌝ }
+pub fn coefficients16(size: u32, words: &[u64], exact: bool) -> [u64; 16]
+    requires { ⌜ Size size × (length (now words) ≡ 16) ⌝ }
+    ensures { λ r. ⌜ r ≡ coefficients size exact 2 (now (words .entry)) ⌝ }
 {
-    arranged(flat_of(write_square(square_of(words), exact)))
+    arranged(size, flat_of(write_square(size, square_of(words), exact)))
 }
 
 // And back.
-pub fn values16(cs: [u32; 16], exact: bool) -> [u32; 16]
-    ensures { λ r. ⌜ r ≡ values 32 exact 2 cs ⌝ }
+pub fn values16(size: u32, cs: [u64; 16], exact: bool) -> [u64; 16]
+    requires { ⌜ Size size ⌝ }
+    ensures { λ r. ⌜ r ≡ values size exact 2 cs ⌝ }
 {
-    let flat = placed(cs);
-    flat_of(read_square(square_of(&flat), exact))
+    let flat = placed(size, cs);
+    flat_of(read_square(size, square_of(&flat), exact))
 }

@@ -2,87 +2,91 @@
 use crate::transform::read_four;
 use crate::transform::write_four;
 ghost use mathlib.Core.Path.{_≡_};
-ghost use Prim.Native.Nat.{_^_, _<_};
+ghost use Prim.Native.Nat.{_^_, _≤_, _<_};
 ghost use lib.ListN.{length};
 ghost use Rattle.blocks.specs.Four.{writing, reading};
 ghost use Rattle.blocks.specs.Axes.{along, forward, backward};
 ghost use Rattle.blocks.specs.Square.{flat, eachRow, columnOf, transposed};
 
-fn write_rows(b: [[u32; 4]; 4], exact: bool) -> [[u32; 4]; 4]
-    ensures { λ r. ⌜ r ≡ eachRow (writing 32 exact) b ⌝ }
+fn write_rows(size: u32, b: [[u64; 4]; 4], exact: bool) -> [[u64; 4]; 4]
+    requires { ⌜ (1 ≤ size) × (size ≤ 64) ⌝ }
+    ensures { λ r. ⌜ r ≡ eachRow (writing size exact) b ⌝ }
 {
     [
-        write_four(b[0], exact),
-        write_four(b[1], exact),
-        write_four(b[2], exact),
-        write_four(b[3], exact),
+        write_four(size, b[0], exact),
+        write_four(size, b[1], exact),
+        write_four(size, b[2], exact),
+        write_four(size, b[3], exact),
     ]
 }
 
-fn read_rows(b: [[u32; 4]; 4], exact: bool) -> [[u32; 4]; 4]
-    ensures { λ r. ⌜ r ≡ eachRow (reading 32 exact) b ⌝ }
+fn read_rows(size: u32, b: [[u64; 4]; 4], exact: bool) -> [[u64; 4]; 4]
+    requires { ⌜ (1 ≤ size) × (size ≤ 64) ⌝ }
+    ensures { λ r. ⌜ r ≡ eachRow (reading size exact) b ⌝ }
 {
     [
-        read_four(b[0], exact),
-        read_four(b[1], exact),
-        read_four(b[2], exact),
-        read_four(b[3], exact),
+        read_four(size, b[0], exact),
+        read_four(size, b[1], exact),
+        read_four(size, b[2], exact),
+        read_four(size, b[3], exact),
     ]
 }
 
 // Column i.
-fn column(b: [[u32; 4]; 4], i: usize) -> [u32; 4]
+fn column(b: [[u64; 4]; 4], i: usize) -> [u64; 4]
     requires { ⌜ i < 4 ⌝ }
     ensures { λ r. ⌜ r ≡ columnOf b i ⌝ }
 {
     [b[0][i], b[1][i], b[2][i], b[3][i]]
 }
 
-fn transpose(b: [[u32; 4]; 4]) -> [[u32; 4]; 4]
+fn transpose(b: [[u64; 4]; 4]) -> [[u64; 4]; 4]
     ensures { λ r. ⌜ r ≡ transposed b ⌝ }
 {
     [column(b, 0), column(b, 1), column(b, 2), column(b, 3)]
 }
 
 // The lines along axis a: the rows along axis 0, the columns along axis 1.
-fn write_along(b: [[u32; 4]; 4], a: u32, exact: bool) -> [[u32; 4]; 4]
-    requires { ⌜ a < 2 ⌝ }
-    ensures { λ r. ⌜ flat r ≡ along (writing 32 exact) (4 ^ a) (flat b) ⌝ }
+fn write_along(size: u32, b: [[u64; 4]; 4], a: u32, exact: bool) -> [[u64; 4]; 4]
+    requires { ⌜ (1 ≤ size) × (size ≤ 64) × a < 2 ⌝ }
+    ensures { λ r. ⌜ flat r ≡ along (writing size exact) (4 ^ a) (flat b) ⌝ }
 {
     if a == 0 {
-        write_rows(b, exact)
+        write_rows(size, b, exact)
     } else {
-        transpose(write_rows(transpose(b), exact))
+        transpose(write_rows(size, transpose(b), exact))
     }
 }
 
-fn read_along(b: [[u32; 4]; 4], a: u32, exact: bool) -> [[u32; 4]; 4]
-    requires { ⌜ a < 2 ⌝ }
-    ensures { λ r. ⌜ flat r ≡ along (reading 32 exact) (4 ^ a) (flat b) ⌝ }
+fn read_along(size: u32, b: [[u64; 4]; 4], a: u32, exact: bool) -> [[u64; 4]; 4]
+    requires { ⌜ (1 ≤ size) × (size ≤ 64) × a < 2 ⌝ }
+    ensures { λ r. ⌜ flat r ≡ along (reading size exact) (4 ^ a) (flat b) ⌝ }
 {
     if a == 0 {
-        read_rows(b, exact)
+        read_rows(size, b, exact)
     } else {
-        transpose(read_rows(transpose(b), exact))
+        transpose(read_rows(size, transpose(b), exact))
     }
 }
 
 // The rows, then the columns.
-pub fn write_square(b: [[u32; 4]; 4], exact: bool) -> [[u32; 4]; 4]
-    ensures { λ r. ⌜ flat r ≡ forward 32 exact 2 (flat b) ⌝ }
+pub fn write_square(size: u32, b: [[u64; 4]; 4], exact: bool) -> [[u64; 4]; 4]
+    requires { ⌜ (1 ≤ size) × (size ≤ 64) ⌝ }
+    ensures { λ r. ⌜ flat r ≡ forward size exact 2 (flat b) ⌝ }
 {
-    write_along(write_along(b, 0, exact), 1, exact)
+    write_along(size, write_along(size, b, 0, exact), 1, exact)
 }
 
 // The columns, then the rows.
-pub fn read_square(b: [[u32; 4]; 4], exact: bool) -> [[u32; 4]; 4]
-    ensures { λ r. ⌜ flat r ≡ backward 32 exact 2 (flat b) ⌝ }
+pub fn read_square(size: u32, b: [[u64; 4]; 4], exact: bool) -> [[u64; 4]; 4]
+    requires { ⌜ (1 ≤ size) × (size ≤ 64) ⌝ }
+    ensures { λ r. ⌜ flat r ≡ backward size exact 2 (flat b) ⌝ }
 {
-    read_along(read_along(b, 1, exact), 0, exact)
+    read_along(size, read_along(size, b, 1, exact), 0, exact)
 }
 
 // Sixteen words as four rows.
-pub fn square_of(words: &[u32]) -> [[u32; 4]; 4]
+pub fn square_of(words: &[u64]) -> [[u64; 4]; 4]
     requires { ⌜ length (now words) ≡ 16 ⌝ }
     ensures { λ r. ⌜ flat r ≡ now (words .entry) ⌝ }
 {
@@ -95,10 +99,10 @@ pub fn square_of(words: &[u32]) -> [[u32; 4]; 4]
 }
 
 // Four rows as sixteen words.
-pub fn flat_of(b: [[u32; 4]; 4]) -> [u32; 16]
+pub fn flat_of(b: [[u64; 4]; 4]) -> [u64; 16]
     ensures { λ r. ⌜ r ≡ flat b ⌝ }
 {
-    let mut out = [0u32; 16];
+    let mut out = [0u64; 16];
     let mut p = 0;
     while p < 16 {
         out[p] = b[p / 4][p % 4];

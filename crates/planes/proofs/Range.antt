@@ -5,7 +5,7 @@ use mathlib.Core.List.{List, [], _∷_}
 use Prim.Native.Nat.{ℕ, zero, suc, _-_, _*_, _^_, _≤_}
 use native.Mathlib.Omega.{arith}
 use native.Mathlib.Nat.{pow-suc, sub-zero}
-use lib.Pow.{pow-pos}
+use lib.Pow.{pow-pos, pow-mono}
 use lib.ListN.{length, replicate, length-replicate}
 use Rattle.bits.specs.Stream.{digit}
 use Rattle.planes.specs.Reader.{readPlane, readNext, addPlane, readFrom, readWords, Room}
@@ -27,9 +27,9 @@ pub read-length : (w N p : ℕ) (s : List Bool) → length (readWords w N p s) �
 unfolding readWords
 read-length w N p s = from-length w p 0 (replicate N 0) s ∙ length-replicate N 0
 
-pub room-none : (w N : ℕ) → Room w w (replicate N 0)
-room-none w zero = tt
-room-none w (suc N) = (omega arith, room-none w N)
+pub room-none : (w m N : ℕ) → m ≤ w → Room w m (replicate N 0)
+room-none w m zero h = tt
+room-none w m (suc N) h = (omega (arith, pow-mono h), room-none w m N h)
 
 room-less : (w m : ℕ) (ws : List ℕ) → Room w (suc m) ws → Room w m ws
 room-less w m [] r = tt
@@ -59,4 +59,4 @@ from-room w (suc v) (suc p) n ws s h r =
 
 pub read-below : (w N p : ℕ) (s : List Bool) → p ≤ w → Below w (readWords w N p s)
 unfolding readWords
-read-below w N p s h = room-below w (w - p) (readFrom w p 0 (replicate N 0) s) (from-room w w p 0 (replicate N 0) s h (room-none w N))
+read-below w N p s h = room-below w (w - p) (readFrom w p 0 (replicate N 0) s) (from-room w w p 0 (replicate N 0) s h (room-none w w N (omega arith)))

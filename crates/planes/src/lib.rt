@@ -1,3 +1,3 @@
-// The bit planes of blocks of 32-bit words, coded and read.
+// The bit planes of blocks of words of up to 64 bits, coded and read.
 pub mod reader;
 pub mod writer;

@@ -12,40 +12,46 @@ pub struct Place {
     pub n: usize,
 }
 
-fn power(k: u32) -> u32
-    requires { ⌜ k < 32 ⌝ }
+fn power(k: u32) -> u64
+    requires { ⌜ k < 64 ⌝ }
     ensures { λ r. ⌜ r ≡ 2 ^ k ⌝ }
 {
-    1u32 << k
+    1u64 << k
 }
 
 // A one in plane k of word i.
-fn add_one(words: &mut [u32], k: u32, i: usize)
-    requires { ⌜ (k < 32) × (i < length (now words)) × (getD (now words) i 0 + 2 ^ k < 2 ^ 32) ⌝ }
+fn add_one(words: &mut [u64], k: u32, i: usize)
+    requires { ⌜ (k < 64) × (i < length (now words)) × (getD (now words) i 0 + 2 ^ k < 2 ^ 64) ⌝ }
     ensures { λ _. ⌜ now (words .exit) ≡ set (now (words .entry)) i (getD (now (words .entry)) i 0 + 2 ^ k) ⌝ }
 {
     words[i] = words[i] + power(k);
 }
 
+fn wide(b: bool) -> u64
+    ensures { λ r. ⌜ r ≡ digit b ⌝ }
+{
+    b as u64
+}
+
 // Bit b as a number, at plane k.
-fn placed(b: bool, k: u32) -> u32
-    requires { ⌜ k < 32 ⌝ }
+fn placed(b: bool, k: u32) -> u64
+    requires { ⌜ k < 64 ⌝ }
     ensures { λ r. ⌜ r ≡ digit b * 2 ^ k ⌝ }
 {
-    bits::digit_of(b) * power(k)
+    wide(b) * power(k)
 }
 
 // Bit b in plane k of word i, with no branch on it.
-fn add_bit(words: &mut [u32], k: u32, i: usize, b: bool)
-    requires { ⌜ (k < 32) × (i < length (now words)) × (getD (now words) i 0 + 2 ^ k < 2 ^ 32) ⌝ }
+fn add_bit(words: &mut [u64], k: u32, i: usize, b: bool)
+    requires { ⌜ (k < 64) × (i < length (now words)) × (getD (now words) i 0 + 2 ^ k < 2 ^ 64) ⌝ }
     ensures { λ _. ⌜ now (words .exit) ≡ set (now (words .entry)) i (getD (now (words .entry)) i 0 + digit b * 2 ^ k) ⌝ }
 {
     words[i] = words[i] + placed(b, k);
 }
 
 // The test at place n: a 0, or the end of the budget, ends the plane; a 1 is followed by a scan.
-fn read_test(buf: &[u8], at: usize, end: usize, words: &mut [u32], k: u32, n: usize) -> Place
-    requires { ⌜ (k < 32) × (n ≤ length (now words)) × (end ≤ 8 * length (now buf)) × (at ≤ end) × Room 32 (suc k) (drop n (now words)) ⌝ }
+fn read_test(buf: &[u8], at: usize, end: usize, words: &mut [u64], k: u32, n: usize) -> Place
+    requires { ⌜ (k < 64) × (n ≤ length (now words)) × (end ≤ 8 * length (now buf)) × (at ≤ end) × Room 64 (suc k) (drop n (now words)) ⌝ }
     ensures { λ r. ⌜ PartRead (now (words .entry)) (now (words .exit)) k n (bitsOf (now (buf .entry))) end
         (readTest (slice at end (bitsOf (now (buf .entry)))) (length (now (words .entry)) - n)) (r .at) (r .n) ⌝ }
 {
@@ -66,8 +72,8 @@ fn read_test(buf: &[u8], at: usize, end: usize, words: &mut [u32], k: u32, n: us
 }
 
 // The scan from place n: zeros up to a one, which another test follows; at the last place the one is known.
-fn read_scan(buf: &[u8], at: usize, end: usize, words: &mut [u32], k: u32, n: usize) -> Place
-    requires { ⌜ (k < 32) × (n < length (now words)) × (end ≤ 8 * length (now buf)) × (at ≤ end) × Room 32 (suc k) (drop n (now words)) ⌝ }
+fn read_scan(buf: &[u8], at: usize, end: usize, words: &mut [u64], k: u32, n: usize) -> Place
+    requires { ⌜ (k < 64) × (n < length (now words)) × (end ≤ 8 * length (now buf)) × (at ≤ end) × Room 64 (suc k) (drop n (now words)) ⌝ }
     ensures { λ r. ⌜ PartRead (now (words .entry)) (now (words .exit)) k n (bitsOf (now (buf .entry))) end
         (readScan (slice at end (bitsOf (now (buf .entry)))) (length (now (words .entry)) - (n + 1))) (r .at) (r .n) ⌝ }
 {
@@ -91,8 +97,8 @@ fn read_scan(buf: &[u8], at: usize, end: usize, words: &mut [u32], k: u32, n: us
 }
 
 // One of a plane's first bits, as it is; past the end of the budget it is 0. The place after it.
-fn read_bit(buf: &[u8], at: usize, end: usize, words: &mut [u32], k: u32, i: usize) -> usize
-    requires { ⌜ (k < 32) × (i < length (now words)) × (end ≤ 8 * length (now buf)) × (at ≤ end) × Room 32 (suc k) (drop i (now words)) ⌝ }
+fn read_bit(buf: &[u8], at: usize, end: usize, words: &mut [u64], k: u32, i: usize) -> usize
+    requires { ⌜ (k < 64) × (i < length (now words)) × (end ≤ 8 * length (now buf)) × (at ≤ end) × Room 64 (suc k) (drop i (now words)) ⌝ }
     ensures { λ r. ⌜ (now (words .exit) ≡ addAt i k (take 1 (slice at end (bitsOf (now (buf .entry))))) (now (words .entry)))
         × (slice r end (bitsOf (now (buf .entry))) ≡ drop 1 (slice at end (bitsOf (now (buf .entry))))) × (r ≤ end) ⌝ }
 {
@@ -106,8 +112,8 @@ fn read_bit(buf: &[u8], at: usize, end: usize, words: &mut [u32], k: u32, i: usi
 }
 
 // The n first bits of plane k, as they are.
-fn read_verbatim(buf: &[u8], at: usize, end: usize, words: &mut [u32], k: u32, n: usize) -> usize
-    requires { ⌜ (k < 32) × (n ≤ length (now words)) × (end ≤ 8 * length (now buf)) × (at ≤ end) × Room 32 (suc k) (now words) ⌝ }
+fn read_verbatim(buf: &[u8], at: usize, end: usize, words: &mut [u64], k: u32, n: usize) -> usize
+    requires { ⌜ (k < 64) × (n ≤ length (now words)) × (end ≤ 8 * length (now buf)) × (at ≤ end) × Room 64 (suc k) (now words) ⌝ }
     ensures { λ r. ⌜ (now (words .exit) ≡ addAt 0 k (take n (slice at end (bitsOf (now (buf .entry))))) (now (words .entry)))
         × (slice r end (bitsOf (now (buf .entry))) ≡ drop n (slice at end (bitsOf (now (buf .entry))))) × (r ≤ end) ⌝ }
 {
@@ -121,8 +127,8 @@ fn read_verbatim(buf: &[u8], at: usize, end: usize, words: &mut [u32], k: u32, n
 }
 
 // Plane k: the n first bits as they are, then a test.
-fn read_plane(buf: &[u8], at: usize, end: usize, words: &mut [u32], k: u32, n: usize) -> Place
-    requires { ⌜ (k < 32) × (n ≤ length (now words)) × (end ≤ 8 * length (now buf)) × (at ≤ end) × Room 32 (suc k) (now words) ⌝ }
+fn read_plane(buf: &[u8], at: usize, end: usize, words: &mut [u64], k: u32, n: usize) -> Place
+    requires { ⌜ (k < 64) × (n ≤ length (now words)) × (end ≤ 8 * length (now buf)) × (at ≤ end) × Room 64 (suc k) (now words) ⌝ }
     ensures { λ r. ⌜ PlaneRead (now (words .entry)) (now (words .exit)) k n (bitsOf (now (buf .entry))) at end (r .at) (r .n) ⌝ }
 {
     let next = read_verbatim(buf, at, end, words, k, n);
@@ -130,7 +136,7 @@ fn read_plane(buf: &[u8], at: usize, end: usize, words: &mut [u32], k: u32, n: u
 }
 
 // All words are set to 0.
-pub fn clear(words: &mut [u32])
+pub fn clear(words: &mut [u64])
     ensures { λ _. ⌜ now (words .exit) ≡ replicate (length (now (words .entry))) 0 ⌝ }
 {
     let mut i = 0;
@@ -140,16 +146,16 @@ pub fn clear(words: &mut [u32])
     }
 }
 
-// The words that p planes, from plane 31 downward, give; what they held before does not matter.
-pub fn read_planes(buf: &[u8], at: usize, end: usize, words: &mut [u32], p: u32)
-    requires { ⌜ (p ≤ 32) × (end ≤ 8 * length (now buf)) × (at ≤ end) ⌝ }
-    ensures { λ _. ⌜ now (words .exit) ≡ readWords 32 (length (now (words .entry))) p (slice at end (bitsOf (now (buf .entry)))) ⌝ }
+// The words of `size` bits that p planes, from the top one downward, give; what they held before does not matter.
+pub fn read_planes(size: u32, buf: &[u8], at: usize, end: usize, words: &mut [u64], p: u32)
+    requires { ⌜ (size ≤ 64) × (p ≤ size) × (end ≤ 8 * length (now buf)) × (at ≤ end) ⌝ }
+    ensures { λ _. ⌜ now (words .exit) ≡ readWords size (length (now (words .entry))) p (slice at end (bitsOf (now (buf .entry)))) ⌝ }
 {
     clear(words);
     let mut next = at;
     let mut n = 0;
-    let mut k: u32 = 32;
-    while 32 - p < k {
+    let mut k = size;
+    while size - p < k {
         k -= 1;
         let s = read_plane(buf, next, end, words, k, n);
         next = s.at;

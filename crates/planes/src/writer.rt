@@ -19,16 +19,16 @@ pub struct Coded {
 }
 
 // Bit k of word i.
-fn bit_at(words: &[u32], k: u32, i: usize) -> bool
-    requires { ⌜ (k < 32) × (i < length (now words)) ⌝ }
+fn bit_at(words: &[u64], k: u32, i: usize) -> bool
+    requires { ⌜ (k < 64) × (i < length (now words)) ⌝ }
     ensures { λ r. ⌜ r ≡ bit k (getD (now (words .entry)) i 0) ⌝ }
 {
     (words[i] >> k) % 2 == 1
 }
 
 // The place after the last one of plane k.
-fn ones_end(words: &[u32], k: u32) -> usize
-    requires { ⌜ k < 32 ⌝ }
+fn ones_end(words: &[u64], k: u32) -> usize
+    requires { ⌜ k < 64 ⌝ }
     ensures { λ r. ⌜ r ≡ onesEnd (plane k (now (words .entry))) ⌝ }
 {
     let mut i = words.len();
@@ -42,10 +42,10 @@ fn ones_end(words: &[u32], k: u32) -> usize
 }
 
 // A word whose bit k says whether plane k has a one.
-pub fn planes_with_ones(words: &[u32]) -> u32
+pub fn planes_with_ones(words: &[u64]) -> u64
     ensures { λ r. ⌜ ((k : ℕ) → bit k r ≡ any (plane k (now (words .entry)))) ⌝ }
 {
-    let mut all: u32 = 0;
+    let mut all: u64 = 0;
     let mut i = 0;
     while i < words.len() {
         all = all | words[i];
@@ -56,7 +56,7 @@ pub fn planes_with_ones(words: &[u32]) -> u32
 
 // The test at place n: is any bit from there on a one? A 1 is followed by a scan.
 fn test(
-    words: &[u32],
+    words: &[u64],
     k: u32,
     end: usize,
     n: usize,
@@ -64,7 +64,7 @@ fn test(
     out: Cursor,
     limit: usize,
 ) -> Coder
-    requires { ⌜ (k < 32) × (n ≤ length (now words)) × (end ≡ onesEnd (plane k (now words))) × (limit ≤ 8 * length (now buf))
+    requires { ⌜ (k < 64) × (n ≤ length (now words)) × (end ≡ onesEnd (plane k (now words))) × (limit ≤ 8 * length (now buf))
         × (out .at + 2 * (length (now words) - n) < 2 ^ 32) ⌝ }
     ensures { λ r. ⌜ Advanced (bitsOf (now (buf .entry))) (bitsOf (now (buf .exit))) (out .at) limit
         (test (drop n (plane k (now (words .entry))))) (planeNext n (plane k (now (words .entry)))) (r .out .at) (r .n) ⌝ }
@@ -84,7 +84,7 @@ fn test(
 
 // The scan from place n: bits are written until a one has been, then comes a test; the bit at the last place is never written.
 fn scan(
-    words: &[u32],
+    words: &[u64],
     k: u32,
     end: usize,
     n: usize,
@@ -92,7 +92,7 @@ fn scan(
     out: Cursor,
     limit: usize,
 ) -> Coder
-    requires { ⌜ (k < 32) × (n < length (now words)) × (end ≡ onesEnd (plane k (now words))) × (limit ≤ 8 * length (now buf))
+    requires { ⌜ (k < 64) × (n < length (now words)) × (end ≡ onesEnd (plane k (now words))) × (limit ≤ 8 * length (now buf))
         × (out .at + 2 * (length (now words) - n) < 2 ^ 32 + 1) ⌝ }
     ensures { λ r. ⌜ Advanced (bitsOf (now (buf .entry))) (bitsOf (now (buf .exit))) (out .at) limit
         (scan (drop n (plane k (now (words .entry))))) (n + scanMoves (drop n (plane k (now (words .entry))))) (r .out .at) (r .n) ⌝ }
@@ -112,8 +112,8 @@ fn scan(
 }
 
 // The n first bits of plane k, as they are.
-fn verbatim(words: &[u32], k: u32, n: usize, buf: &mut [u8], out: Cursor, limit: usize) -> Cursor
-    requires { ⌜ (k < 32) × (n ≤ length (now words)) × (limit ≤ 8 * length (now buf)) × (out .at + n < 2 ^ 32) ⌝ }
+fn verbatim(words: &[u64], k: u32, n: usize, buf: &mut [u8], out: Cursor, limit: usize) -> Cursor
+    requires { ⌜ (k < 64) × (n ≤ length (now words)) × (limit ≤ 8 * length (now buf)) × (out .at + n < 2 ^ 32) ⌝ }
     ensures { λ r. ⌜ Written (bitsOf (now (buf .entry))) (bitsOf (now (buf .exit))) (out .at) limit (take n (plane k (now (words .entry)))) (r .at) ⌝ }
 {
     let mut next = out;
@@ -126,8 +126,8 @@ fn verbatim(words: &[u32], k: u32, n: usize, buf: &mut [u8], out: Cursor, limit:
 }
 
 // Plane k: its n first bits as they are, then a test, if places are left.
-fn put_plane(words: &[u32], k: u32, n: usize, buf: &mut [u8], out: Cursor, limit: usize) -> Coder
-    requires { ⌜ (k < 32) × (n ≤ length (now words)) × (limit ≤ 8 * length (now buf)) × (out .at + 2 * length (now words) < 2 ^ 32) ⌝ }
+fn put_plane(words: &[u64], k: u32, n: usize, buf: &mut [u8], out: Cursor, limit: usize) -> Coder
+    requires { ⌜ (k < 64) × (n ≤ length (now words)) × (limit ≤ 8 * length (now buf)) × (out .at + 2 * length (now words) < 2 ^ 32) ⌝ }
     ensures { λ r. ⌜ Advanced (bitsOf (now (buf .entry))) (bitsOf (now (buf .exit))) (out .at) limit
         (planeCode n (plane k (now (words .entry)))) (planeNext n (plane k (now (words .entry)))) (r .out .at) (r .n) ⌝ }
 {
@@ -140,15 +140,22 @@ fn put_plane(words: &[u32], k: u32, n: usize, buf: &mut [u8], out: Cursor, limit
     }
 }
 
-// The planes from the top one downward, p of them.
-pub fn put_planes(words: &[u32], p: u32, buf: &mut [u8], out: Cursor, limit: usize) -> Coded
-    requires { ⌜ (p ≤ 32) × (length (now words) ≤ 256) × (limit ≤ 8 * length (now buf)) × (out .at < 2 ^ 31) ⌝ }
-    ensures { λ r. ⌜ Written (bitsOf (now (buf .entry))) (bitsOf (now (buf .exit))) (out .at) limit (planesCode 32 p (now (words .entry))) (r .out .at) ⌝ }
+// The planes of words of `size` bits from the top one downward, p of them.
+pub fn put_planes(
+    size: u32,
+    words: &[u64],
+    p: u32,
+    buf: &mut [u8],
+    out: Cursor,
+    limit: usize,
+) -> Coded
+    requires { ⌜ (size ≤ 64) × (p ≤ size) × (length (now words) ≤ 256) × (limit ≤ 8 * length (now buf)) × (out .at < 2 ^ 31) ⌝ }
+    ensures { λ r. ⌜ Written (bitsOf (now (buf .entry))) (bitsOf (now (buf .exit))) (out .at) limit (planesCode size p (now (words .entry))) (r .out .at) ⌝ }
 {
-    let lowest = 32 - p;
+    let lowest = size - p;
     let mut next = out;
     let mut n = 0;
-    let mut k: u32 = 32;
+    let mut k = size;
     while lowest < k {
         k -= 1;
         let c = put_plane(words, k, n, buf, next, limit);

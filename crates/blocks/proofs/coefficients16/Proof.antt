@@ -27,9 +27,9 @@ unfolding coefficients
 returns c =
     let s = c .before .before .before .before .before in
     c .arranged .ensures
-    ∙ ap (λ (l : List ℕ). map (nega 32) (reorder (order 2) l))
+    ∙ ap (λ (l : List ℕ). map (nega (s .args .size)) (reorder (order 2) l))
     (c .before .flat-of .ensures ∙ c .before .before .write-square .ensures
-    ∙ ap (forward 32 (s .args .exact) 2) (c .before .before .before .square-of .ensures))
+    ∙ ap (forward (s .args .size) (s .args .exact) 2) (c .before .before .before .square-of .ensures))
 
 pub coefficients16-spec : {M : Type 1} → statement M
 coefficients16-spec =

@@ -4,8 +4,8 @@ use Rattle.blocks.proofs.Quads.{coefficients-line}
 use Rattle.blocks.proofs.coefficients4.Statement.{statement}
 use Rattle.blocks.proofs.coefficients4.Tie as tie
 
-shared-slice-read-t6 : tie.Need-shared-slice-read-t6
-shared-slice-read-t6 c = search needs
+shared-slice-read-t7 : tie.Need-shared-slice-read-t7
+shared-slice-read-t7 c = search needs
 
 shared-slice-read-nega : tie.Need-shared-slice-read-nega
 shared-slice-read-nega c = search needs
@@ -13,8 +13,8 @@ shared-slice-read-nega c = search needs
 shared-slice-read-nega-2 : tie.Need-shared-slice-read-nega-2
 shared-slice-read-nega-2 c = search needs
 
-shared-slice-read-t12 : tie.Need-shared-slice-read-t12
-shared-slice-read-t12 c = search needs
+shared-slice-read-t13 : tie.Need-shared-slice-read-t13
+shared-slice-read-t13 c = search needs
 
 write-four-requires : tie.Need-write-four-requires
 write-four-requires c κs = search needs
@@ -48,16 +48,16 @@ returns c =
     let t = c .before .before .before .before in
     let s = t .before .before .before .before .before .before in
     rw (c .nega4 .ensures, c .before .nega3 .ensures, c .before .before .nega2 .ensures, c .before .before .before .nega .ensures)
-    (coefficients-line 32 (s .args .exact) (s .args .words .now) (s .pre) (t .write-four .result) (t .write-four .ensures))
+    (coefficients-line (s .args .size) (s .args .exact) (s .args .words .now) (s .pre .1) (t .write-four .result) (t .write-four .ensures))
 
 pub coefficients4-spec : {M : Type 1} → statement M
 coefficients4-spec =
     tie.close
     (tie.spec
-    shared-slice-read-t6
+    shared-slice-read-t7
     shared-slice-read-nega
     shared-slice-read-nega-2
-    shared-slice-read-t12
+    shared-slice-read-t13
     write-four-requires
     array-read-nega
     nega-requires

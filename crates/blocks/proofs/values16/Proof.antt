@@ -26,7 +26,7 @@ unfolding values
 returns c =
     let s = c .before .before .before .before .before in
     c .flat-of .ensures ∙ c .before .read-square .ensures
-    ∙ ap (backward 32 (s .args .exact) 2) (c .before .before .square-of .ensures ∙ c .before .before .before .before .placed .ensures)
+    ∙ ap (backward (s .args .size) (s .args .exact) 2) (c .before .before .square-of .ensures ∙ c .before .before .before .before .placed .ensures)
 
 pub values16-spec : {M : Type 1} → statement M
 values16-spec =

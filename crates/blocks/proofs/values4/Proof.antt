@@ -36,7 +36,7 @@ returns : tie.Need-returns
 returns c =
     let s = c .before .before .before .before .before in
     rw (c .read-four .ensures, c .before .unnega4 .ensures, c .before .before .unnega3 .ensures, c .before .before .before .unnega2 .ensures, c .before .before .before .before .unnega .ensures)
-    (values-line 32 (s .args .exact) (s .args .t1) (omega arith))
+    (values-line (s .args .size) (s .args .exact) (s .args .t2) (omega arith))
 
 pub values4-spec : {M : Type 1} → statement M
 values4-spec =

@@ -12,10 +12,10 @@ use Rattle.blocks.proofs.arrange.arranged.Statement.{statement}
 use Rattle.blocks.proofs.arrange.arranged.Tie as tie
 
 abbrev Inv-loop : tie.InvT-loop
-Inv-loop words out₀ k₀ out k = (k ≤ 16) × (length out ≡ 16) × Filled (λ i. i) (λ i. nega 32 (getD words (getD (order 2) i 0) 0)) out k
+Inv-loop size words out₀ k₀ out k = (k ≤ 16) × (length out ≡ 16) × Filled (λ i. i) (λ i. nega size (getD words (getD (order 2) i 0) 0)) out k
 
 abbrev μ-loop : tie.MeasureT-loop
-μ-loop words out₀ k₀ out k = 16 - k
+μ-loop size words out₀ k₀ out k = 16 - k
 
 loop-holds : tie.Need-loop-holds Inv-loop μ-loop
 loop-holds c = search needs
@@ -47,7 +47,7 @@ loop-less c = search needs
 loop-again : tie.Need-loop-again Inv-loop μ-loop
 loop-again c =
     let s = c .before .before .before in
-    let e = c .nega .ensures ∙ ap (λ (p : ℕ). nega 32 (getD (s .before .args .t1) p 0)) (c .before .place .ensures .0) in (
+    let e = c .nega .ensures ∙ ap (λ (p : ℕ). nega (s .before .args .size) (getD (s .before .args .t2) p 0)) (c .before .place .ensures .0) in (
       search needs,
       simp length-set (omega arith),
       fill-more _ _ (s .loop .out) (s .loop .k) (s .loop .k) (c .nega .result) refl e (omega arith) (λ i h e. omega arith) (s .loop .inv .2),
@@ -57,7 +57,7 @@ returns : tie.Need-returns Inv-loop μ-loop
 returns c =
     let s = c .before in
     let e : s .loop .k ≡ 16 = omega arith in
-    gathered (nega 32) 16 (order 2) square-places (s .before .args .t1) (s .loop .out) (s .loop .inv .1) (rw e at (s .loop .inv .2))
+    gathered (nega (s .before .args .size)) 16 (order 2) square-places (s .before .args .t2) (s .loop .out) (s .loop .inv .1) (rw e at (s .loop .inv .2))
 
 pub arranged-spec : {M : Type 1} → statement M
 arranged-spec =

@@ -12,10 +12,10 @@ use Rattle.blocks.proofs.arrange.placed.Statement.{statement}
 use Rattle.blocks.proofs.arrange.placed.Tie as tie
 
 abbrev Inv-loop : tie.InvT-loop
-Inv-loop cs out₀ k₀ out k = (k ≤ 16) × (length out ≡ 16) × Filled (λ i. getD (order 2) i 0) (λ i. unnega 32 (getD cs i 0)) out k
+Inv-loop size cs out₀ k₀ out k = (k ≤ 16) × (length out ≡ 16) × Filled (λ i. getD (order 2) i 0) (λ i. unnega size (getD cs i 0)) out k
 
 abbrev μ-loop : tie.MeasureT-loop
-μ-loop cs out₀ k₀ out k = 16 - k
+μ-loop size cs out₀ k₀ out k = 16 - k
 
 loop-holds : tie.Need-loop-holds Inv-loop μ-loop
 loop-holds c = search needs
@@ -59,7 +59,7 @@ returns : tie.Need-returns Inv-loop μ-loop
 returns c =
     let s = c .before in
     let e : s .loop .k ≡ 16 = omega arith in
-    scattered (unnega 32) 16 (order 2) square-places (s .before .args .t1) (s .loop .out) (s .loop .inv .1) (omega arith) (rw e at (s .loop .inv .2))
+    scattered (unnega (s .before .args .size)) 16 (order 2) square-places (s .before .args .t2) (s .loop .out) (s .loop .inv .1) (omega arith) (rw e at (s .loop .inv .2))
 
 pub placed-spec : {M : Type 1} → statement M
 placed-spec =

@@ -14,7 +14,7 @@ read-along-requires-2 c κs = search needs
 returns : tie.Need-returns
 returns c =
     let s = c .before .before .args in
-    columns-then-rows 32 (s .exact) (flat (s .b)) (flat (c .before .read-along .result)) (c .before .read-along .ensures) (c .read-along2 .ensures)
+    columns-then-rows (s .size) (s .exact) (flat (s .b)) (flat (c .before .read-along .result)) (c .before .read-along .ensures) (c .read-along2 .ensures)
 
 pub read-square-spec : {M : Type 1} → statement M
 read-square-spec = tie.close (tie.spec read-along-requires read-along-requires-2 returns)

@@ -24,12 +24,12 @@ returns : tie.Need-returns
 returns c =
     let s = c .before .before .args in
     let e : s .a ≡ 0 = c .before .if1 .taken in
-    rw e (ap flat (c .write-rows .ensures) ∙ rows-along (writing 32 (s .exact)) (s .b))
+    rw e (ap flat (c .write-rows .ensures) ∙ rows-along (writing (s .size) (s .exact)) (s .b))
 
 returns-2 : tie.Need-returns-2
 returns-2 c =
     let s = c .before .before .before .before .args in
-    let t = writing 32 (s .exact) in
+    let t = writing (s .size) (s .exact) in
     let e : s .a ≡ 1 = omega arith in
     rw e
     (ap flat (c .transpose2 .ensures ∙ ap transposed (c .before .write-rows2 .ensures ∙ ap (eachRow t) (c .before .before .transpose .ensures)))

@@ -14,7 +14,7 @@ write-along-requires-2 c κs = search needs
 returns : tie.Need-returns
 returns c =
     let s = c .before .before .args in
-    rows-then-columns 32 (s .exact) (flat (s .b)) (flat (c .before .write-along .result)) (c .before .write-along .ensures) (c .write-along2 .ensures)
+    rows-then-columns (s .size) (s .exact) (flat (s .b)) (flat (c .before .write-along .result)) (c .before .write-along .ensures) (c .write-along2 .ensures)
 
 pub write-square-spec : {M : Type 1} → statement M
 write-square-spec = tie.close (tie.spec write-along-requires write-along-requires-2 returns)

@@ -40,8 +40,8 @@ minus-requires-5 c κs = search needs
 minus-requires-6 : tie.Need-minus-requires-6
 minus-requires-6 c κs = search needs
 
-array-read-t11 : tie.Need-array-read-t11
-array-read-t11 c = search needs
+array-read-t12 : tie.Need-array-read-t12
+array-read-t12 c = search needs
 
 returns : tie.Need-returns
 unfolding differ
@@ -71,5 +71,5 @@ differ-spec =
     minus-requires-4
     minus-requires-5
     minus-requires-6
-    array-read-t11
+    array-read-t12
     returns)

@@ -1,6 +1,6 @@
 -- `blocks::transform::lift` meets its contract: each step is what `words` ensures of it.
 use borrow.Author.Needs.{needs}
-use Rattle.blocks.specs.Four.{lift}
+use Rattle.blocks.proofs.Through.{lift-steps}
 use Rattle.blocks.proofs.transform.lift.Statement.{statement}
 use Rattle.blocks.proofs.transform.lift.Tie as tie
 
@@ -71,29 +71,27 @@ minus-requires-5 : tie.Need-minus-requires-5
 minus-requires-5 c κs = search needs
 
 returns : tie.Need-returns
-unfolding lift
 returns c =
     let c₁ = c .before .before .before .before in
     let c₂ = c₁ .before .before .before .before in
     let c₃ = c₂ .before .before .before .before in
-    rw (
-      c .minus5 .ensures,
-      c .before .half6 .ensures,
-      c .before .before .plus5 .ensures,
-      c .before .before .before .half5 .ensures,
-      c₁ .minus4 .ensures,
-      c₁ .before .half4 .ensures,
-      c₁ .before .before .plus4 .ensures,
-      c₁ .before .before .before .minus3 .ensures,
-      c₂ .half3 .ensures,
-      c₂ .before .plus3 .ensures,
-      c₂ .before .before .minus2 .ensures,
-      c₂ .before .before .before .half2 .ensures,
-      c₃ .plus2 .ensures,
-      c₃ .before .minus .ensures,
-      c₃ .before .before .half .ensures,
-      c₃ .before .before .before .plus .ensures,
-    )
+    lift-steps _ _ _ _ _
+    (c₃ .before .before .before .plus .ensures)
+    (c₃ .before .before .half .ensures)
+    (c₃ .before .minus .ensures)
+    (c₃ .plus2 .ensures)
+    (c₂ .before .before .before .half2 .ensures)
+    (c₂ .before .before .minus2 .ensures)
+    (c₂ .before .plus3 .ensures)
+    (c₂ .half3 .ensures)
+    (c₁ .before .before .before .minus3 .ensures)
+    (c₁ .before .before .plus4 .ensures)
+    (c₁ .before .half4 .ensures)
+    (c₁ .minus4 .ensures)
+    (c .before .before .before .half5 .ensures)
+    (c .before .before .plus5 .ensures)
+    (c .before .half6 .ensures)
+    (c .minus5 .ensures)
 
 pub lift-spec : {M : Type 1} → statement M
 lift-spec =

@@ -40,8 +40,8 @@ plus-requires-5 c κs = search needs
 plus-requires-6 : tie.Need-plus-requires-6
 plus-requires-6 c κs = search needs
 
-array-read-t11 : tie.Need-array-read-t11
-array-read-t11 c = search needs
+array-read-t12 : tie.Need-array-read-t12
+array-read-t12 c = search needs
 
 returns : tie.Need-returns
 unfolding undiffer
@@ -71,5 +71,5 @@ undiffer-spec =
     plus-requires-4
     plus-requires-5
     plus-requires-6
-    array-read-t11
+    array-read-t12
     returns)

@@ -56,25 +56,25 @@ module _ (t : ℕ) where
   scan-add-one-requires : read-scan-lts.Need-add-one-requires scan-calls scan-at read-scan.Post
   scan-add-one-requires c κs =
       let s = c .before .before .before .before .before .before .before in
-      (search needs, search needs, room-here 32 (s .args .k) (s .args .n) (s .args .words .now) (s .pre .1 .1) (s .pre .1 .4))
+      (search needs, search needs, room-here 64 (s .args .k) (s .args .n) (s .args .words .now) (s .pre .1 .1) (s .pre .1 .4))
 
   scan-read-test-requires : read-scan-lts.Need-read-test-requires scan-calls scan-at read-scan.Post
   scan-read-test-requires c κs =
       let one = c .before .before .before in
       let s = one .before .before .before .before .before .before .before .before in (
         search needs,
-        (search needs, search needs, search needs, search needs, rw (one .add-one .ensures) (room-set 32 (s .args .k) (s .args .n) _ (s .args .words .now) (s .pre .1 .1) (s .pre .1 .4))),
+        (search needs, search needs, search needs, search needs, rw (one .add-one .ensures) (room-set 64 (s .args .k) (s .args .n) _ (s .args .words .now) (s .pre .1 .1) (s .pre .1 .4))),
       )
 
   scan-read-scan-requires : read-scan-lts.Need-read-scan-requires scan-calls scan-at read-scan.Post
   scan-read-scan-requires c κs =
       let s = c .before .before .before .before .before .before .before in
-      (search needs, (search needs, search needs, search needs, search needs, room-next 32 (s .args .k) (s .args .n) (s .args .words .now) (s .pre .1 .1) (s .pre .1 .4)))
+      (search needs, (search needs, search needs, search needs, search needs, room-next 64 (s .args .k) (s .args .n) (s .args .words .now) (s .pre .1 .1) (s .pre .1 .4)))
 
   scan-add-one-requires-2 : read-scan-lts.Need-add-one-requires-2 scan-calls scan-at read-scan.Post
   scan-add-one-requires-2 c κs =
       let s = c .before .before .before .before in
-      (search needs, search needs, room-here 32 (s .args .k) (s .args .n) (s .args .words .now) (s .pre .1 .1) (s .pre .1 .4))
+      (search needs, search needs, room-here 64 (s .args .k) (s .args .n) (s .args .words .now) (s .pre .1 .1) (s .pre .1 .4))
 
   scan-same-length : read-scan-lts.Need-same-length scan-calls scan-at read-scan.Post
   scan-same-length c = search needs

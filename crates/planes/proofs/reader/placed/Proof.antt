@@ -1,4 +1,4 @@
--- A bit moved up by fewer than 32 bits stays a u32. Assumes nothing.
+-- A bit moved up by fewer than 64 bits stays a u64. Assumes nothing.
 use Rattle.bits.proofs.NumberLaws.{digit-times}
 use lib.Pow.{pow-lt}
 use native.Mathlib.Nat.{lt-of-le-of-lt}
@@ -7,8 +7,8 @@ use borrow.Author.Needs.{needs}
 use Rattle.planes.proofs.reader.placed.Statement.{statement}
 use Rattle.planes.proofs.reader.placed.Tie as tie
 
-digit-of-requires : tie.Need-digit-of-requires
-digit-of-requires c κs = search needs
+wide-requires : tie.Need-wide-requires
+wide-requires c κs = search needs
 
 power-requires : tie.Need-power-requires
 power-requires c κs = search needs
@@ -16,10 +16,10 @@ power-requires c κs = search needs
 mul-result : tie.Need-mul-result
 mul-result c =
     let s = c .before .before in
-    rw (c .before .digit-of .ensures, c .power .ensures) (record { fits = lt-of-le-of-lt (digit-times (s .args .b) (2 ^ s .args .k)) (pow-lt (s .pre)) })
+    rw (c .before .wide .ensures, c .power .ensures) (record { fits = lt-of-le-of-lt (digit-times (s .args .b) (2 ^ s .args .k)) (pow-lt (s .pre)) })
 
 returns : tie.Need-returns
-returns c = rw (c .before .digit-of .ensures, c .power .ensures)
+returns c = rw (c .before .wide .ensures, c .power .ensures)
 
 pub placed-spec : {M : Type 1} → statement M
-placed-spec = tie.close (tie.spec digit-of-requires power-requires mul-result returns)
+placed-spec = tie.close (tie.spec wide-requires power-requires mul-result returns)

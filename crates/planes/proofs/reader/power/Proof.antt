@@ -1,4 +1,4 @@
--- A one moved up by fewer than 32 bits stays a u32. Assumes nothing.
+-- A one moved up by fewer than 64 bits stays a u64. Assumes nothing.
 use lib.Pow.{pow-lt}
 use native.Mathlib.Nat.{one-mul, mod-eq-of-lt}
 use Prim.Native.Nat.{_^_, _<_}
@@ -11,7 +11,7 @@ shl-result c = search needs
 
 returns : tie.Need-returns
 returns c =
-    let h : 2 ^ (c .args .k) < 2 ^ 32 = pow-lt (c .pre) in
+    let h : 2 ^ (c .args .k) < 2 ^ 64 = pow-lt (c .pre) in
     rw (one-mul, mod-eq-of-lt)
 
 pub power-spec : {M : Type 1} → statement M

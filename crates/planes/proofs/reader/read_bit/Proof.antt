@@ -13,7 +13,7 @@ get-requires c κs = search needs
 add-bit-requires : tie.Need-add-bit-requires
 add-bit-requires c κs =
     let s = c .before .before .before .before .before in
-    (search needs, search needs, room-here 32 (s .args .k) (s .args .i) (s .args .words .now) (s .pre .1) (s .pre .4))
+    (search needs, search needs, room-here 64 (s .args .k) (s .args .i) (s .args .words .now) (s .pre .1) (s .pre .4))
 
 add-result : tie.Need-add-result
 add-result c = search needs

@@ -18,7 +18,7 @@ read-test-requires c κs =
     let v = c .before .before .before in
     let s = v .before .before .before .before in
     let first = take (s .args .n) (slice (s .args .at) (s .args .end) (bitsOf (s .args .buf .now))) in
-    (search needs, search needs, search needs, search needs, rw (v .read-verbatim .ensures .0, drop-add (s .args .k) (s .args .n) first (s .args .words .now) (omega (arith, length-take (s .args .n) (slice (s .args .at) (s .args .end) (bitsOf (s .args .buf .now)))))) (room-drop 32 _ (s .args .n) (s .args .words .now) (s .pre .4)))
+    (search needs, search needs, search needs, search needs, rw (v .read-verbatim .ensures .0, drop-add (s .args .k) (s .args .n) first (s .args .words .now) (omega (arith, length-take (s .args .n) (slice (s .args .at) (s .args .end) (bitsOf (s .args .buf .now)))))) (room-drop 64 _ (s .args .n) (s .args .words .now) (s .pre .4)))
 
 same-length : tie.Need-same-length
 same-length c = search needs

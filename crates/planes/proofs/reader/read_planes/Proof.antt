@@ -13,12 +13,12 @@ use Rattle.planes.proofs.reader.read_planes.Statement.{statement}
 use Rattle.planes.proofs.reader.read_planes.Tie as tie
 
 abbrev Inv-loop : tie.InvT-loop
-Inv-loop buf at end words₀ p next₀ n₀ k₀ words next n k =
-    (k ≤ 32) × (32 - p ≤ k) × (n ≤ length words) × (length words ≡ length words₀) × (next ≤ end) × Room 32 k words
-    × (readFrom k (k - (32 - p)) n words (slice next end (bitsOf buf)) ≡ readFrom 32 p 0 words₀ (slice at end (bitsOf buf)))
+Inv-loop size buf at end words₀ p next₀ n₀ k₀ words next n k =
+    (k ≤ size) × (size - p ≤ k) × (n ≤ length words) × (length words ≡ length words₀) × (next ≤ end) × Room 64 k words
+    × (readFrom k (k - (size - p)) n words (slice next end (bitsOf buf)) ≡ readFrom size p 0 words₀ (slice at end (bitsOf buf)))
 
 abbrev μ-loop : tie.MeasureT-loop
-μ-loop buf at end words₀ p next₀ n₀ k₀ words next n k = k
+μ-loop size buf at end words₀ p next₀ n₀ k₀ words next n k = k
 
 clear-requires : tie.Need-clear-requires Inv-loop μ-loop
 clear-requires c κs = search needs
@@ -27,8 +27,8 @@ loop-holds : tie.Need-loop-holds Inv-loop μ-loop
 loop-holds c =
     let z = c .before .before in
     let s = z .before .before .before .before in
-    let e : 32 - (32 - s .args .p) ≡ s .args .p = omega arith in
-    (search needs, search needs, search needs, refl, search needs, rw (z .clear .ensures) (room-none 32 (length (s .args .words .now))), rw e)
+    let e : s .args .size - (s .args .size - s .args .p) ≡ s .args .p = omega arith in
+    (search needs, search needs, search needs, refl, search needs, rw (z .clear .ensures) (room-none 64 (s .args .size) (length (s .args .words .now)) (s .pre .0)), rw e)
 
 sub-loop : tie.Need-sub-loop Inv-loop μ-loop
 sub-loop c = search needs
@@ -58,8 +58,8 @@ loop-again c =
       omega (arith, kept, read .moved, next-le (length (l .words)) (l .n) (slice (l .next) (s .args .end) (bitsOf (s .args .buf .now))) (l .inv .2)),
       kept ∙ l .inv .3,
       read .within,
-      plane-room 32 (l .k) (l .n) (l .next) (s .args .end) _ _ (omega arith) read (l .inv .5),
-      planes-more (l .k) (32 - s .args .p) (l .n) (l .next) (s .args .end) _ _ (turn .loop-test .taken) read ∙ l .inv .6,
+      plane-room 64 (l .k) (l .n) (l .next) (s .args .end) _ _ (omega arith) read (l .inv .5),
+      planes-more (l .k) (s .args .size - s .args .p) (l .n) (l .next) (s .args .end) _ _ (turn .loop-test .taken) read ∙ l .inv .6,
     )
 
 same-length : tie.Need-same-length Inv-loop μ-loop
@@ -71,7 +71,7 @@ returns c =
     let l = c .before .loop in
     let z = c .before .before .before .before in
     let s = z .before .before .before .before in
-    let e : l .k - (32 - s .args .p) ≡ 0 = omega arith in
+    let e : l .k - (s .args .size - s .args .p) ≡ 0 = omega arith in
     (rw e at (l .inv .6)) ∙ rw (z .clear .ensures)
 
 pub read-planes-spec : {M : Type 1} → statement M

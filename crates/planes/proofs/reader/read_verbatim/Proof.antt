@@ -14,7 +14,7 @@ use Rattle.planes.proofs.reader.read_verbatim.Tie as tie
 
 abbrev Inv-loop : tie.InvT-loop
 Inv-loop buf at end words₀ k n next₀ i₀ words next i =
-    (i ≤ n) × (length words ≡ length words₀) × (next ≤ end) × Room 32 (suc k) (drop i words)
+    (i ≤ n) × (length words ≡ length words₀) × (next ≤ end) × Room 64 (suc k) (drop i words)
     × (addAt i k (take (n - i) (slice next end (bitsOf buf))) words ≡ addAt 0 k (take n (slice at end (bitsOf buf))) words₀)
     × (drop (n - i) (slice next end (bitsOf buf)) ≡ drop n (slice at end (bitsOf buf)))
 
@@ -46,7 +46,7 @@ loop-again c =
       search needs,
       call .read-bit .kept .1 .1 .1 .0 ∙ l .inv .1,
       call .read-bit .ensures .2,
-      room-bit 32 (s .args .k) (l .i) bits (l .words) _ few (call .read-bit .ensures .0) (l .inv .3),
+      room-bit 64 (s .args .k) (l .i) bits (l .words) _ few (call .read-bit .ensures .0) (l .inv .3),
       rw (call .read-bit .ensures .1) (more .0 ∙ (rw e at (l .inv .4))),
       rw (call .read-bit .ensures .1) (more .1 ∙ (rw e at (l .inv .5))),
     )

@@ -15,14 +15,14 @@ use Rattle.planes.proofs.writer.put_planes.Statement.{statement}
 use Rattle.planes.proofs.writer.put_planes.Tie as tie
 
 abbrev Inv-loop : tie.InvT-loop
-Inv-loop words p buf₀ limit lowest next₀ n₀ k₀ buf next n k =
-    (lowest ≤ k) × (k ≤ 32) × (n ≤ length words) × (length buf ≡ length buf₀) × (next .at ≤ next₀ .at + 512 * (32 - k))
+Inv-loop size words p buf₀ limit lowest next₀ n₀ k₀ buf next n k =
+    (lowest ≤ k) × (k ≤ size) × (n ≤ length words) × (length buf ≡ length buf₀) × (next .at ≤ next₀ .at + 512 * (size - k))
     × ((after : List Bool) (end : ℕ)
     → Written (bitsOf buf) after (next .at) limit (codeFrom n (planesOf k (k - lowest) words)) end
-    → Written (bitsOf buf₀) after (next₀ .at) limit (planesCode 32 p words) end)
+    → Written (bitsOf buf₀) after (next₀ .at) limit (planesCode size p words) end)
 
 abbrev μ-loop : tie.MeasureT-loop
-μ-loop words p buf₀ limit lowest next₀ n₀ k₀ buf next n k = k
+μ-loop size words p buf₀ limit lowest next₀ n₀ k₀ buf next n k = k
 
 sub-lowest : tie.Need-sub-lowest Inv-loop μ-loop
 sub-lowest c = search needs
@@ -31,7 +31,7 @@ loop-holds : tie.Need-loop-holds Inv-loop μ-loop
 unfolding planesCode
 loop-holds c =
     let s = c .before .before in
-    let e : 32 - (32 - s .args .p) ≡ s .args .p = omega arith in
+    let e : s .args .size - (s .args .size - s .args .p) ≡ s .args .p = omega arith in
     (omega arith, omega arith, omega arith, refl, omega arith, λ after end w. rw e at w)
 
 sub-k : tie.Need-sub-k Inv-loop μ-loop
@@ -57,7 +57,7 @@ loop-again c =
       omega (arith, r .moved, b),
       call .put-plane .kept .1 .1 .1 .0 ∙ l .inv .3,
       omega (arith, r .written .moved, b, s .pre .1),
-      λ after end w. l .inv .5 after end (planes-more (32 - s .args .p) (l .k) (l .n) ws (turn .loop-test .taken) r w),
+      λ after end w. l .inv .5 after end (planes-more (s .args .size - s .args .p) (l .k) (l .n) ws (turn .loop-test .taken) r w),
     )
 
 same-length : tie.Need-same-length Inv-loop μ-loop
@@ -67,7 +67,7 @@ returns : tie.Need-returns Inv-loop μ-loop
 returns c =
     let l = c .before .loop in
     let s = c .before .before .before .before in
-    let e : l .k - (32 - s .args .p) ≡ 0 = omega arith in
+    let e : l .k - (s .args .size - s .args .p) ≡ 0 = omega arith in
     l .inv .5 _ _ (rw e (written-none _ _ _))
 
 pub put-planes-spec : {M : Type 1} → statement M
