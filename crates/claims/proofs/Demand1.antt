@@ -11,7 +11,8 @@ use lib.ListN.{length, getD}
 use Rattle.bits.specs.Stream.{bitsOf, write}
 use Rattle.bits.proofs.WriteLaws.{write-before, write-beyond}
 use Rattle.slots.specs.declared.Params.{Params}
-use Rattle.slots.specs.Rules.{first, widthOf, slotsIn, codeOf, padded, storeRows, readRows}
+use Rattle.codec.specs.Code.{padded}
+use Rattle.slots.specs.Rules.{first, widthOf, slotsIn, codeOf, storeRows, readRows}
 use Rattle.slots.specs.Outcome.{storeOutcome, readOutcome}
 
 -- demand 1: a refused store changes no bit of the archive

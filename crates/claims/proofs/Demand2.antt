@@ -14,7 +14,8 @@ use Rattle.bits.proofs.SameLaws.{same-refl}
 use Rattle.bits.proofs.WriteLaws.{slice-write}
 use Rattle.blocks.proofs.Lists.{Words}
 use Rattle.slots.specs.declared.Params.{Params}
-use Rattle.slots.specs.Rules.{first, exact, wordCount, widthOf, codeOf, padded, wordsOf, placeRows, storeRows, readRows, row9, row10, row11}
+use Rattle.codec.specs.Code.{padded}
+use Rattle.slots.specs.Rules.{first, exact, wordCount, widthOf, codeOf, wordsOf, placeRows, storeRows, readRows, row9, row10, row11}
 use Rattle.slots.specs.Outcome.{storeOutcome, readOutcome, slotOf}
 use Rattle.slots.proofs.RowLaws.{Placed, placed, good, none, first-both, read-first}
 use Rattle.slots.proofs.Garbage.{IsBlock, padded-returns, row11-exactly}

@@ -14,11 +14,11 @@ use Rattle.planes.specs.Coder.{planesCode}
 use Rattle.planes.proofs.Bound.{bound}
 use Rattle.planes.proofs.Tight.{tight}
 use Rattle.planes.proofs.Words.{Below}
-use Rattle.codec.specs.Code.{definedCode}
+use Rattle.codec.specs.Code.{definedCode, padded}
 use Rattle.codec.proofs.Lengths.{four-some}
 use Rattle.codec.proofs.Longest.{longest, longest-code, longest-words}
 use Rattle.slots.specs.declared.Params.{Params}
-use Rattle.slots.specs.Rules.{first, float, exact, wordCount, widthOf, codeOf, padded, placeRows, storeRows, row9}
+use Rattle.slots.specs.Rules.{first, float, exact, wordCount, widthOf, codeOf, placeRows, storeRows, row9}
 use Rattle.slots.specs.Outcome.{bitOutcome, storeOutcome}
 use Rattle.slots.proofs.RowLaws.{store-first}
 use Rattle.slots.proofs.Exact.{in-order, exact-bound}

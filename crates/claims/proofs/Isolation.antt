@@ -13,7 +13,8 @@ use Rattle.bits.specs.Stream.{bitsOf, write}
 use Rattle.bits.proofs.WriteLaws.{slice-write-before, slice-write-after}
 use lib.ListN.{length}
 use Rattle.slots.specs.declared.Params.{Params}
-use Rattle.slots.specs.Rules.{first, widthOf, codeOf, padded, storeRows}
+use Rattle.codec.specs.Code.{padded}
+use Rattle.slots.specs.Rules.{first, widthOf, codeOf, storeRows}
 use Rattle.slots.specs.Outcome.{storeOutcome, readOutcome, slotOf}
 
 -- "The read's answer depends on the parameters, the buffer's lengths, the slot number and that slot's W bits only": two archives of one length that agree on

@@ -6,17 +6,22 @@ ghost use Rattle.conversions.specs.Guarded.{patternAt, integerAt};
 pub extern "C" fn windlassow_to_pattern(e: u32, i: u32) -> u32
     ensures { λ r. ⌜ r ≡ patternAt e i ⌝ }
 {
-    if e < 256 { floats::to_pattern(e, i) } else { 0 }
+    if e < 256 {
+        floats::to_pattern(32, e, i as u64) as u32
+    } else {
+        0
+    }
 }
 
 #[no_mangle]
 pub extern "C" fn windlassow_to_integer(e: u32, w: u32) -> u32
     ensures { λ r. ⌜ r ≡ integerAt e w ⌝ }
 {
-    let field = floats::exponent_field(w);
+    let word = w as u64;
+    let field = floats::exponent_field(32, word);
     if field < e {
         if field < 255 {
-            floats::to_integer(e, w)
+            floats::to_integer(32, e, word) as u32
         } else {
             0
         }
