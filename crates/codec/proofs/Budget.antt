@@ -9,9 +9,9 @@ use lib.ListN.{length, take}
 use lib.Seq.{take-append-add, take-nil}
 use Rattle.bits.specs.Stream.{numberBits}
 use Rattle.bits.proofs.NumberLaws.{length-numberBits}
+use Rattle.floats.specs.Pattern.{fieldBits}
 use Rattle.floats.specs.Block.{blockExponent, noMagnitude}
 use Rattle.floats.specs.Integer.{toInteger}
-use Rattle.codec.specs.Head.{fieldBits}
 use Rattle.codec.specs.Code.{lossyPlanes, lossyIntegers, lossyFloats, uncutFloats, definedCode, uncutCode}
 
 -- a 1 and a number of k bits in front of a code

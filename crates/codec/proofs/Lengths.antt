@@ -15,10 +15,10 @@ use Rattle.planes.proofs.Bound.{bound}
 use Rattle.blocks.specs.Order.{order, inOrder}
 use Rattle.blocks.specs.Coefficients.{coefficients}
 use Rattle.blocks.proofs.Whole.{length-coefficients}
-use Rattle.floats.specs.Pattern.{wordSize}
+use Rattle.floats.specs.Pattern.{wordSize, fieldBits}
 use Rattle.floats.specs.Integer.{toInteger}
 use Rattle.floats.specs.Block.{blockExponent, allZero, allWhole}
-use Rattle.codec.specs.Head.{planesNeeded, countBits, fieldBits, exactPlanes}
+use Rattle.codec.specs.Head.{planesNeeded, countBits, exactPlanes}
 use Rattle.codec.specs.Code.{exactIntegers, exactFloats}
 use Rattle.codec.proofs.Needed.{needed-range}
 use Rattle.codec.proofs.Trips.{word-some}

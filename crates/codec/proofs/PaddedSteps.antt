@@ -14,10 +14,10 @@ use Rattle.bits.proofs.StreamLaws.{slice-first, slice-rest}
 use Rattle.planes.specs.Reader.{readWords}
 use Rattle.planes.specs.Whole.{PlanesRead}
 use Rattle.words.specs.Word.{flip}
-use Rattle.floats.specs.Pattern.{wordSize}
+use Rattle.floats.specs.Pattern.{wordSize, fieldBits}
 use Rattle.floats.specs.Integer.{toInteger, toPattern}
 use Rattle.floats.specs.Block.{blockExponent, allZero, allWhole}
-use Rattle.codec.specs.Head.{countBits, fieldBits}
+use Rattle.codec.specs.Head.{countBits}
 use Rattle.codec.specs.Read.{readCoefficients, readIntegers}
 use Rattle.codec.specs.Padded.{smallest, paddedPlanes, sameWords, multiples, others, paddedMultiples, paddedFlipped}
 

@@ -7,11 +7,10 @@ use lib.Ieee.{Format, ones}
 use lib.ListN.{length, getD}
 use Rattle.bits.specs.Stream.{numberBits}
 use Rattle.words.specs.Word.{flip}
-use Rattle.floats.specs.Pattern.{wordSize, exponentField}
+use Rattle.floats.specs.Pattern.{wordSize, exponentField, fieldBits}
 use Rattle.floats.specs.Integer.{toInteger}
 use Rattle.floats.specs.Block.{blockExponent, anySpecial, noMagnitude, allZero, allWhole}
 use Rattle.floats.proofs.Blocks.{fields-ready, whole-none-special}
-use Rattle.codec.specs.Head.{fieldBits}
 use Rattle.codec.specs.Code.{integersCode, exactIntegers, exactFloats, uncutFloats, uncutCode}
 
 module _ (f : Format) (d p : ℕ) (ws : List ℕ) where

@@ -3,7 +3,7 @@ use mathlib.Core.Bool.{cond}
 use mathlib.Core.List.{List, _++_}
 use mathlib.Core.Bool.{Bool}
 use Prim.Native.Nat.{ℕ, zero, suc, _-_}
-use lib.Ieee.{Format, binary32, binary64, prec}
+use lib.Ieee.{Format, binary32, binary64}
 use Rattle.bits.specs.Stream.{numberBits}
 use Rattle.planes.specs.Coder.{plane, any, planesCode}
 use Rattle.floats.specs.Pattern.{wordSize}
@@ -21,10 +21,6 @@ planesNeeded w us = leastPlanes w w us
 abbrev pub countBits : Format → ℕ
 countBits binary32 = 5
 countBits binary64 = 6
-
--- the bits of e, as many as an exponent field has: eight for binary32
-abbrev pub fieldBits : Format → ℕ
-fieldBits f = wordSize f - prec f
 
 -- "5 bits of p - 1, then p planes", of coefficients
 unfoldable pub exactPlanes : Format → List ℕ → List Bool
