@@ -1,9 +1,10 @@
 # Makes the entries that moved.awk compares, a line each: SECTION, CRATE, KEY, NAME, PUBLIC, WHAT IT SAYS, THE REST, WHAT IT CITES, apart by tabs.
-# Reads imports, then declarations, functions and proof files, each from a file named so.
+# Reads imports, declarations (twice: with names=1 for their names alone), functions and proof files, each from a file named so.
 BEGIN { FS = OFS = "\t"; n = split(crates, list, " "); for (i = 1; i <= n; i++) open[list[i]] = 1 }
 FILENAME ~ /imports$/ { source[$1, $3] = where($4); next }
 { split($1, path, "/"); crate = path[2]; module = inner($1) }
-FILENAME ~ /proofs$/ { print "proof", crate, module, module, 0, $2, $3, ""; next }
+names { source[$1, $3] = crate "." module "." $3; next }
+FILENAME ~ /proofs$/ { print "proof", crate, module, last(module), 0, $2, $3, ""; next }
 FILENAME ~ /functions$/ {
     section = $4 == "fn" ? "contract" : "type"
     print section, crate, module "::" $3, $3, (crate in open) && ($5 || $3 == "main"), $6, $7, cited($1, $6)
@@ -22,13 +23,15 @@ function inner(file,   s) {
     return crate (s == "" ? "" : "::" s)
 }
 
+function last(s) { sub(/^.*::/, "", s); return s }
+
 # Rattle.C.specs.F.x and Rattle.C.specs.F.x: C.F.x
 function where(from) {
     if (sub(/^Rattle·/, "", from)) { sub(/·(specs|proofs)\./, ".", from); sub(/\.(specs|proofs)\./, ".", from) }
     return from
 }
 
-# The imported names that a text has, each with where it is from: ' name=from name=from '.
+# The names of declarations that a text has, each with where it is from: ' name=from name=from '.
 function cited(file, text,   w, n, i, s) {
     n = split(text, w, /[ (){};,]+/)
     split("", seen)

@@ -14,16 +14,9 @@ END { pair("key"); pair("place"); pair("renamed"); judge(); report() }
 # What has to be equal for two entries to be mates.
 function sign(how, s, i) {
     if (how == "key") return pool[s, i] SUBSEP key[s, i]
-    if (how == "place") return pool[s, i] SUBSEP simple(s, i) SUBSEP says[s, i]
+    if (how == "place") return pool[s, i] SUBSEP name[s, i] SUBSEP says[s, i]
     if (pool[s, i] == "proof" || (pool[s, i] == "contract" && says[s, i] !~ /(requires|ensures)\{/)) return ""
     return pool[s, i] SUBSEP without(says[s, i], name[s, i])
-}
-
-# The name without its crate and file; of a proof file, the path without the crate.
-function simple(s, i,   t) {
-    t = name[s, i]
-    if (pool[s, i] == "proof") sub(/^[^:]*::/, "", t)
-    return t
 }
 
 # A text with every occurrence of a name as a whole word replaced.

@@ -2,11 +2,12 @@
 function report() {
     print "From " base " to " head ":"
     print ""
+    spread()
     print "'Moved' is said of what says something else now; layout and comments do not count."
     print ""
     public_part("contract", "public contracts")
     public_part("type", "public types")
-    if (only) exit bad > 0
+    if (only) exit (bad > 0)
     part("definition", "definitions")
     part("contract", "contracts of all functions")
     part("type", "types of the code")
@@ -24,23 +25,44 @@ function counts(title, same, moved, added, removed, place, renamed,   s) {
     print s
 }
 
-function public_part(which, title,   j, i, n, names, st) {
+function public_part(which, title,   j, i, n, names, st, s) {
     for (j = 1; j <= total[2]; j++) {
         if (section[2, j] != which || !public[2, j]) continue
         i = mate[2, j]
         st = !i || !public[1, i] ? "added" : status[2, j]
         n[st]++
+        if (st == "same" && rests(cites[2, j])) s = s ", `" key[2, j] "`"
         note(names, st, key[2, j], i ? key[1, i] : "")
     }
     for (i = 1; i <= total[1]; i++) {
         j = mate[1, i]
         if (section[1, i] != which || !public[1, i] || (j && public[2, j])) continue
         n["removed"]++
-        note(names, "removed", key[1, i], "")
+        note(names, "removed", key[1, i], j ? " (now `" key[2, j] "`, not public)" : "")
     }
     bad += n["moved"] + n["removed"] + n["renamed"]
     counts(title, n["same"] + n["place"], n["moved"], n["added"], n["removed"], n["place"], n["renamed"])
     lists(names)
+    if (s != "") wrap("- unchanged, but what they say rests on definitions that moved: " substr(s, 3))
+    print ""
+}
+
+# Marks the definitions that moved, those that cite them, and so on.
+function spread(   j, more) {
+    for (j = 1; j <= total[2]; j++) if (pool[2, j] == "declaration" && status[2, j] == "moved") shaken[key[2, j]] = 1
+    for (more = 1; more;) {
+        more = 0
+        for (j = 1; j <= total[2]; j++) {
+            if (pool[2, j] != "declaration" || (key[2, j] in shaken) || !rests(cites[2, j])) continue
+            shaken[key[2, j]] = more = 1
+        }
+    }
+}
+
+function rests(cited,   w, n, i) {
+    n = split(cited, w, " ")
+    for (i = 1; i <= n; i++) if (substr(w[i], index(w[i], "=") + 1) in shaken) return 1
+    return 0
 }
 
 function part(which, title,   j, i, n, names, alone) {
@@ -60,6 +82,7 @@ function part(which, title,   j, i, n, names, alone) {
     counts(title, n["same"], n["moved"], n["added"], n["removed"], n["place"], n["renamed"])
     lists(names)
     if (alone != "") wrap("- unchanged but for their imports: " substr(alone, 3))
+    print ""
 }
 
 # Laws that say what they said and are proved otherwise.
@@ -84,7 +107,7 @@ function note(names, st, now, before,   from, to) {
         names[st, from, to] = names[st, from, to] ", `" substr(now, length(to) + 1) "`"
         return
     }
-    names[st] = names[st] ", `" (st == "renamed" ? before "` to `" now : now) "`"
+    names[st] = names[st] ", `" (st == "renamed" ? before "` to `" now "`" : now "`" (st == "removed" ? before : ""))
 }
 
 # All before the last name, with its mark
@@ -97,7 +120,6 @@ function lists(names,   i, w, st) {
         split(names["order", i], w, SUBSEP)
         wrap("- from `" bare(w[2]) "` to `" bare(w[3]) "`: " substr(names[w[1], w[2], w[3]], 3))
     }
-    print ""
 }
 
 function bare(s) { sub(/(\.|::)$/, "", s); return s }
@@ -118,13 +140,24 @@ function tell(s, i, st) {
     if (!(crate[s, i] in known)) { known[crate[s, i]] = 1; order[++crates] = crate[s, i] }
     cell[crate[s, i], section[s, i], st]++
     if (st != "same") touched[crate[s, i]] = 1
+    if (st == "place") gone(crate[1, mate[2, i]], crate[2, i], section[2, i])
+}
+
+# What went to another crate is counted in the crate that it left, too.
+function gone(from, to, which) {
+    if (from == to) return
+    if (!(from in known)) { known[from] = 1; order[++crates] = from }
+    cell[from, which, "left"]++
+    touched[from] = 1
 }
 
 function figures(c, which,   st, i, s) {
-    for (i = 1; i <= split("same moved added removed place renamed", st, " "); i++)
-        if ((c, which, st[i]) in cell) s = s ", " cell[c, which, st[i]] " " (st[i] == "place" ? "from elsewhere" : st[i])
+    for (i = 1; i <= split("same moved added removed place left renamed", st, " "); i++)
+        if ((c, which, st[i]) in cell) s = s ", " cell[c, which, st[i]] " " worded(st[i])
     return substr(s, 3)
 }
+
+function worded(st) { return st == "place" ? "from elsewhere" : st == "left" ? "to elsewhere" : st }
 
 function by_crate(   i, c, still, rows) {
     for (i = 1; i <= crates; i++) {
