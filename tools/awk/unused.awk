@@ -17,7 +17,11 @@ FILENAME == "functions" {
     next
 }
 FILENAME == "words" { word[$1, $2] = 1; if ($1 ~ /\/Proof\.antt$/) proof_word[++proof_words] = $1 SUBSEP $2; next }
-FILENAME == "paths" && $4 == "mod" { modules[module_of($1) "::" $3] = 1; if ($5) { i = ++items; item[i] = $1; item_at[i] = $2; item_name[i] = $3; item_kind[i] = "mod" } next }
+FILENAME == "paths" && $4 == "mod" {
+    modules[module_of($1) "::" $3] = 1
+    if ($5) { i = ++items; item[i] = $1; item_at[i] = $2; item_name[i] = $3; item_kind[i] = "mod" }
+    next
+}
 FILENAME == "paths" { path[++paths] = $2; path_file[paths] = $1; next }
 FILENAME == "trace" { cited[$1] = 1; next }
 FILENAME == "long" { long_line[++long] = $1 ":" $2 ": a line of " $3 " characters"; next }
