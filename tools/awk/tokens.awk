@@ -2,7 +2,7 @@
 # its first part with a dot and its last part.
 FNR == 1 { inside = using = 0 }
 { line = antt_code($0) }
-line ~ /^[^ \t]/ { using = line ~ /^(pub )?(use|mod) / }
+line ~ /^[^ \t}]/ { using = line ~ /^(pub )?(use|mod) / }
 !using { words(line) }
 
 function words(s,   w, n, i) {
