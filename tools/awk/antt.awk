@@ -36,14 +36,28 @@ function more(line) {
 function start(line,   w, n, i, mods, pub) {
     n = split(line, w, " ")
     for (i = 1; w[i] ~ /^(pub|abbrev|unfoldable|opaque|private)$/; i++) if (w[i] == "pub") pub = 1; else mods = mods w[i] " "
+    if (w[i] ~ /^[\])}]/) { more(line); return }
     if (w[i] ~ /^(use|mod|open|import)$/) { current = 0; return }
     if (w[i] == "module") { scope(line); heading = !ends_head(line); return }
     if (w[i] == "mutual") { scope(""); around[depth] = mods; return }
     if (w[i] == "record" || w[i] == "data") { declare(w[i + 1], w[i], pub, line); return }
-    if (w[i + 1] == ":") { declare(w[i], unfolds(inherited() mods), pub, line); return }
+    if (is_signature(line, w[i])) { declare(w[i], unfolds(inherited() mods), pub, line); return }
     if (w[i] in known) current = known[w[i]]
     saying = 0
     more(line)
+}
+
+# Whether a colon follows the name, after parameters in brackets if there are any: `name : A`, `name {ℓ} (x : A) : B`.
+function is_signature(line, named,   s, i, c, level) {
+    s = substr(line, index(" " line, " " named " ") + length(named))
+    for (i = 1; i <= length(s); i++) {
+        c = substr(s, i, 1)
+        if (c == "(" || c == "{") level++
+        else if (c == ")" || c == "}") level--
+        else if (c != " " && !level) return c == ":" && substr(s, i + 1, 1) ~ /^[ ]?$/
+    }
+    # parameters alone: more of them follow, unless it is a clause
+    return !(named in known)
 }
 
 function scope(text) {
