@@ -1,7 +1,19 @@
 # Shared by the tools: text without comments, and in one form whatever its layout.
 
-# A line of .antt without its comments. `inside` is how deep a comment in braces goes on from the line before.
+# A line in which the spaces and dashes of literal strings are other characters, so that they stay as they are.
+function shielded(s,   t, part) {
+    while (match(s, /"([^"\\]|\\.)*"/)) {
+        part = substr(s, RSTART, RLENGTH)
+        gsub(/ /, "\001", part); gsub(/-/, "\002", part)
+        t = t substr(s, 1, RSTART - 1) part
+        s = substr(s, RSTART + RLENGTH)
+    }
+    return t s
+}
+
+# A line of .antt without its comments. `inside` is 1 if a comment in braces goes on from the line before.
 function antt_code(s,   at, rest) {
+    s = shielded(s)
     while (inside || (at = index(s, "{-"))) {
         if (!inside) { rest = rest substr(s, 1, at - 1) " "; s = substr(s, at + 2); inside = 1 }
         if (!(at = index(s, "-}"))) { s = ""; break }
