@@ -1,0 +1,283 @@
+//! A refused call does no work that grows with its buffers: every exported call is refused with buffers of 2^34 bytes, and has to answer
+//! at once. A walk through one of them takes seconds.
+//!
+//! The buffers are mapped and never written, so they take no memory: where a call reads them, the kernel shows its page of zeros.
+#![allow(unsafe_code)]
+
+use std::ffi::c_void;
+use std::ops::{Deref, DerefMut};
+use std::time::{Duration, Instant};
+use std::{fs, ptr, slice};
+use windlassow::{Params, Refusal, bit_count, fpc_read, fpc_write, read, slot_count, store};
+
+/// What a call may take. It is far more than a call takes, since the machine may be busy, and far less than a walk.
+const LIMIT: Duration = Duration::from_millis(50);
+
+/// The bytes of a huge buffer, and some more: its length cut to 32 bits would be a good one.
+const HUGE: usize = 1 << 34;
+
+unsafe extern "C" {
+    fn mmap(at: *mut c_void, len: usize, protection: i32, flags: i32, file: i32, offset: i64) -> *mut c_void;
+    fn munmap(at: *mut c_void, len: usize) -> i32;
+}
+
+/// Elements that are all zero, on pages that are there once they are written.
+struct Mapped<T> {
+    start: *mut T,
+    len: usize,
+}
+
+impl<T: Copy> Mapped<T> {
+    /// Integers only: zero bytes have to be a value.
+    fn new(len: usize) -> Mapped<T> {
+        // PROT_READ | PROT_WRITE; MAP_PRIVATE | MAP_ANONYMOUS | MAP_NORESERVE
+        let (protection, flags) = (1 | 2, 0x02 | 0x20 | 0x4000);
+        // SAFETY: a new mapping at a place that the kernel picks.
+        let start = unsafe { mmap(ptr::null_mut(), len * size_of::<T>(), protection, flags, -1, 0) };
+        assert!(start as isize != -1, "no mapping of {len} elements: {}", std::io::Error::last_os_error());
+        Mapped { start: start.cast(), len }
+    }
+}
+
+impl<T> Drop for Mapped<T> {
+    fn drop(&mut self) {
+        // SAFETY: the mapping that `new` made; nothing borrows from it any more.
+        unsafe { munmap(self.start.cast(), self.len * size_of::<T>()) };
+    }
+}
+
+impl<T> Deref for Mapped<T> {
+    type Target = [T];
+
+    fn deref(&self) -> &[T] {
+        // SAFETY: mapped and zero, and aligned to a page.
+        unsafe { slice::from_raw_parts(self.start, self.len) }
+    }
+}
+
+impl<T> DerefMut for Mapped<T> {
+    fn deref_mut(&mut self) -> &mut [T] {
+        // SAFETY: as above, and borrowed once.
+        unsafe { slice::from_raw_parts_mut(self.start, self.len) }
+    }
+}
+
+/// The calls that took too long.
+#[derive(Default)]
+struct Slow(Vec<String>);
+
+impl Slow {
+    /// A call that has to be refused with this number. If it is late it is tried again, for the machine may be busy; a walk is not.
+    fn refused(&mut self, number: u32, what: &str, mut call: impl FnMut() -> Result<usize, Refusal>) {
+        self.timed(what, || {
+            let refusal = call().expect_err(what);
+            assert_eq!(refusal.number(), number, "{what}");
+        });
+    }
+
+    fn timed(&mut self, what: &str, mut call: impl FnMut()) {
+        let mut least = Duration::MAX;
+        for _ in 0..3 {
+            let began = Instant::now();
+            call();
+            least = least.min(began.elapsed());
+            if least < LIMIT || least > 10 * LIMIT {
+                break;
+            }
+        }
+        if least >= LIMIT {
+            self.0.push(format!("{what}: {least:?}"));
+        }
+    }
+
+    /// Fails if a call was slow, or if pages were written: this process has little memory of its own.
+    fn end(self) {
+        assert!(self.0.is_empty(), "calls that take longer than {LIMIT:?}:\n{}", self.0.join("\n"));
+        let status = fs::read_to_string("/proc/self/status").unwrap();
+        let resident = status.lines().find_map(|line| line.strip_prefix("VmRSS:")).unwrap();
+        let kilobytes: usize = resident.trim().trim_end_matches(" kB").parse().unwrap();
+        assert!(kilobytes < 200_000, "the process has {kilobytes} kB of memory");
+    }
+}
+
+fn huge_archive() -> Mapped<u8> {
+    Mapped::new(HUGE + 64)
+}
+
+/// 2^32 words and one block more.
+fn huge_words(dimension: u32) -> Mapped<u32> {
+    Mapped::new(HUGE / 4 + 4usize.pow(dimension))
+}
+
+fn params([kind, dimension, mode, planes, width]: [u32; 5]) -> Params {
+    Params::from_numbers(kind, dimension, mode, planes, width)
+}
+
+/// Good parameters of each kind, dimension and mode, with the dimension.
+fn good() -> Vec<(u32, Params, String)> {
+    let mut all = Vec::new();
+    for number in 0..8 {
+        let (kind, dimension, mode) = (number & 1, 1 + (number >> 1 & 1), number >> 2);
+        let what = format!("kind {kind}, dimension {dimension}, mode {mode}");
+        all.push((dimension, params([kind, dimension, mode, 32, 0]), what));
+    }
+    all
+}
+
+/// Parameters of which one is bad, with the refusal's number.
+fn bad() -> Vec<(u32, Params)> {
+    let mut all = Vec::new();
+    for (kind, mode) in [(0, 0), (0, 1), (1, 0), (1, 1)] {
+        for many in [2, u32::MAX] {
+            all.push((1, params([many, 1, mode, 32, 0])));
+            all.push((3, params([kind, 1, many, 32, 0])));
+        }
+        for dimension in [0, 3, u32::MAX] {
+            all.push((2, params([kind, dimension, mode, 32, 0])));
+        }
+        for planes in [0, 33, u32::MAX] {
+            all.push((4, params([kind, 1, mode, planes, 0])));
+        }
+        for width in [1, 15, 1025, u32::MAX] {
+            all.push((5, params([kind, 1, mode, 32, width])));
+        }
+    }
+    all
+}
+
+#[test]
+fn a_refused_store() {
+    let mut slow = Slow::default();
+    let (mut archive, mut small) = (huge_archive(), [0; 64]);
+    for (number, p) in bad() {
+        let words = huge_words(1);
+        slow.refused(number, &format!("store, bad parameters {p:?}"), || store(p, &mut archive, 0, &words));
+    }
+    for (dimension, p, what) in good() {
+        let words = huge_words(dimension);
+        let block = &words[..4usize.pow(dimension)];
+        slow.refused(6, &format!("store, {what}, huge archive"), || store(p, &mut archive, 0, block));
+        slow.refused(6, &format!("store, {what}, both huge"), || store(p, &mut archive, 0, &words));
+        for slot in [16, 1 << 32, usize::MAX] {
+            slow.refused(7, &format!("store, {what}, slot {slot}"), || store(p, &mut small, slot, &words));
+        }
+        slow.refused(8, &format!("store, {what}, huge words"), || store(p, &mut small, 0, &words));
+    }
+    slow.end();
+}
+
+#[test]
+fn a_refused_read() {
+    let mut slow = Slow::default();
+    let (archive, small) = (huge_archive(), [0; 64]);
+    for (number, p) in bad() {
+        let mut words = huge_words(1);
+        slow.refused(number, &format!("read, bad parameters {p:?}"), || read(p, &archive, 0, &mut words));
+    }
+    for (dimension, p, what) in good() {
+        let mut words = huge_words(dimension);
+        let mut block = vec![0; 4usize.pow(dimension)];
+        slow.refused(6, &format!("read, {what}, huge archive"), || read(p, &archive, 0, &mut block));
+        slow.refused(6, &format!("read, {what}, both huge"), || read(p, &archive, 0, &mut words));
+        for slot in [16, 1 << 32, usize::MAX] {
+            slow.refused(7, &format!("read, {what}, slot {slot}"), || read(p, &small, slot, &mut words));
+        }
+        slow.refused(8, &format!("read, {what}, huge words"), || read(p, &small, 0, &mut words));
+    }
+    slow.end();
+}
+
+#[test]
+fn a_refused_slot_count() {
+    let mut slow = Slow::default();
+    let archive = huge_archive();
+    for (number, p) in bad() {
+        slow.refused(number, &format!("slot count, bad parameters {p:?}"), || slot_count(p, &archive));
+    }
+    for (_, p, what) in good() {
+        slow.refused(6, &format!("slot count, {what}, huge archive"), || slot_count(p, &archive));
+    }
+    slow.end();
+}
+
+#[test]
+fn a_refused_bit_count() {
+    let mut slow = Slow::default();
+    for (number, p) in bad() {
+        let words = huge_words(1);
+        slow.refused(number, &format!("bit count, bad parameters {p:?}"), || bit_count(p, &words));
+    }
+    for (dimension, p, what) in good() {
+        let words = huge_words(dimension);
+        slow.refused(8, &format!("bit count, {what}, huge words"), || bit_count(p, &words));
+    }
+    slow.end();
+}
+
+/// Lengths of two tables that are refused: one or both huge, which are a power of two or would be one in 32 bits.
+const TABLES: [(usize, usize); 6] = [
+    (HUGE / 8, HUGE / 8),
+    (HUGE / 8 + 16, HUGE / 8 + 16),
+    (HUGE / 8 + 16, 16),
+    (16, HUGE / 8 + 16),
+    (0, HUGE / 8),
+    (HUGE / 8, 0),
+];
+
+#[test]
+fn a_refused_fpc_write() {
+    let mut slow = Slow::default();
+    let (mut f, mut d) = (Mapped::new(HUGE / 8 + 16), Mapped::new(HUGE / 8 + 16));
+    let (doubles, mut out) = (Mapped::new(HUGE / 8 + 4), Mapped::new(HUGE));
+    for (f_len, d_len) in TABLES {
+        let (f, d) = (&mut f[..f_len], &mut d[..d_len]);
+        let what = format!("FPC write, tables of {f_len} and {d_len}");
+        slow.refused(20, &what, || fpc_write(f, d, &doubles[..4], &mut out[..34]));
+        slow.refused(20, &what, || fpc_write(f, d, &doubles, &mut out));
+    }
+    for (size, len) in [(16, 4097), (16, HUGE / 8), (1024, HUGE / 8 + 4)] {
+        let (f, d) = (&mut f[..size], &mut d[..size]);
+        let what = format!("FPC write, tables of {size}, {len} doubles");
+        slow.refused(21, &what, || fpc_write(f, d, &doubles[..len], &mut out));
+    }
+    slow.end();
+}
+
+#[test]
+fn a_refused_fpc_read() {
+    let mut slow = Slow::default();
+    let (mut f, mut d) = (Mapped::new(HUGE / 8 + 16), Mapped::new(HUGE / 8 + 16));
+    let (stream, mut doubles) = (Mapped::new(HUGE + 3), Mapped::new(HUGE / 8));
+    for (f_len, d_len) in TABLES {
+        let (f, d) = (&mut f[..f_len], &mut d[..d_len]);
+        let what = format!("FPC read, tables of {f_len} and {d_len}");
+        slow.refused(20, &what, || fpc_read(f, d, &stream[..3], &mut doubles[..2]));
+        slow.refused(20, &what, || fpc_read(f, d, &stream, &mut doubles));
+    }
+    for (size, len) in [(16, 65_537), (16, HUGE), (1024, HUGE + 3)] {
+        let (f, d) = (&mut f[..size], &mut d[..size]);
+        let what = format!("FPC read, tables of {size}, {len} bytes");
+        slow.refused(21, &what, || fpc_read(f, d, &stream[..len], &mut doubles));
+    }
+    // The first two of the three bytes of a stream, see below.
+    let (f, d) = (&mut f[..16], &mut d[..16]);
+    slow.refused(23, "FPC read, no stream, huge room", || fpc_read(f, d, &[0x6e, 0x05], &mut doubles));
+    slow.end();
+}
+
+/// Nor does a call that is done look at room that it does not need. Both predictions of 5 are 0; of 8, fcm's is 5 and dfcm's 5 + 5.
+#[test]
+fn fpc_with_huge_room() {
+    let mut slow = Slow::default();
+    let (mut f, mut d) = ([0; 16], [0; 16]);
+    let (mut out, mut doubles) = (Mapped::new(HUGE), Mapped::new(HUGE / 8));
+    slow.timed("FPC write, huge room", || {
+        assert_eq!(fpc_write(&mut f, &mut d, &[5, 8], &mut out), Ok(3));
+        assert_eq!(out[..4], [0x6e, 0x05, 0x02, 0]);
+    });
+    slow.timed("FPC read, huge room", || {
+        assert_eq!(fpc_read(&mut f, &mut d, &[0x6e, 0x05, 0x02], &mut doubles), Ok(2));
+        assert_eq!(doubles[..3], [5, 8, 0]);
+    });
+    slow.end();
+}
