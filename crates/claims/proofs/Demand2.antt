@@ -17,7 +17,7 @@ use Rattle.slots.specs.declared.Params.{Params}
 use Rattle.codec.specs.Code.{padded}
 use Rattle.slots.specs.Rules.{first, exact, wordCount, widthOf, codeOf, wordsOf, placeRows, storeRows, readRows, row9, row10, row11}
 use Rattle.slots.specs.Outcome.{storeOutcome, readOutcome, slotOf}
-use Rattle.slots.proofs.RowLaws.{Placed, placed, good, none, first-both, read-first}
+use Rattle.slots.proofs.RowLaws.{Placed, placed, none, first-both, read-first}
 use Rattle.slots.proofs.Garbage.{IsBlock, padded-returns, row11-exactly}
 
 -- a done store passed every row

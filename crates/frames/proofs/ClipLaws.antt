@@ -1,8 +1,8 @@
 -- A line of more than 128 bytes is ill-formed, and so is what is held of it. Assumes nothing.
-use mathlib.Core.Path.{_≡_, refl, sym, ap, _∙_}
+use mathlib.Core.Path.{_≡_, refl, ap}
 use mathlib.Core.Bool.{Bool, true, false, _&&_, cond}
 use mathlib.Core.List.{List, [], _∷_, _++_, append-nil}
-use Prim.Native.Nat.{ℕ, zero, suc, _+_, _*_, _≤_, _<_}
+use Prim.Native.Nat.{ℕ, zero, suc, _≤_, _<_}
 use native.Mathlib.Decide.{decLe}
 use native.Mathlib.Omega.{arith}
 use borrow.Author.Tests.{ne-eqb, eqb-true}
@@ -13,8 +13,7 @@ use Rattle.slots.specs.declared.Params.{Params}
 use Rattle.slots.specs.Rules.{first, parameterRows, wordCount}
 use Rattle.slots.specs.Outcome.{storeOutcome}
 use Rattle.slots.proofs.RowLaws.{good}
-use Rattle.lines.specs.Hex.{allDigits}
-use Rattle.lines.specs.Line.{Line, wellFormed, firstDigits, parametersOf, firstAnswer, answerLine, illFormed, wordsOf, slotBytes, storedLine, blockDigits, blockLine, goodParameters, firstLine, firstParameters, noParameters, laterLine}
+use Rattle.lines.specs.Line.{wellFormed, firstDigits, parametersOf, firstAnswer, answerLine, illFormed, wordsOf, slotBytes, storedLine, blockDigits, blockLine, goodParameters, firstLine, firstParameters, noParameters, laterLine}
 use Rattle.frames.specs.Pieces.{State, mostHeld, answerTo, nextLine, hold}
 
 pub clip-append : (n : ℕ) (a b : List ℕ) → take n (take n a ++ b) ≡ take n (a ++ b)

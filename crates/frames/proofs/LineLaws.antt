@@ -1,16 +1,14 @@
 -- Laws of the bytes up to a newline. Assumes nothing.
-use mathlib.Core.Path.{_≡_, refl, sym, ap, _∙_}
-use mathlib.Core.Bool.{Bool, true, false, _&&_, cond}
-use mathlib.Core.List.{List, [], _∷_, _++_}
-use Prim.Native.Nat.{ℕ, zero, suc, _+_, _-_, _≤_, _<_, min}
+use mathlib.Core.Path.{_≡_, sym, ap, _∙_}
+use mathlib.Core.List.{List, _++_}
+use Prim.Native.Nat.{ℕ, suc, _+_, _-_, _≤_, _<_, min}
 use native.Mathlib.Decide.{decLe}
 use native.Mathlib.Omega.{arith}
 use borrow.Author.Tests.{ne-eqb}
-use lib.Dec.{eqb}
 use lib.ListN.{length, take, drop, getD, drop-of-length-le, length-take, length-drop}
 use lib.Seq.{slice, paste, drop-cons, take-all, take-take, length-take-le, take-paste, take-append-add}
 use Rattle.lines.specs.Line.{newline}
-use Rattle.frames.specs.Pieces.{beforeNewline, lineLength}
+use Rattle.frames.specs.Pieces.{beforeNewline}
 use Rattle.lines.proofs.PutLaws.{slice-take}
 
 -- ---- at a place of a piece

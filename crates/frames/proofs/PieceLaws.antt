@@ -2,16 +2,16 @@
 use mathlib.Core.Path.{_≡_, refl, sym, ap, _∙_}
 use mathlib.Core.Bool.{Bool, true, false, cond}
 use mathlib.Core.List.{List, [], _∷_, _++_, append-assoc, append-nil}
-use Prim.Native.Nat.{ℕ, zero, suc, _+_, _-_, _≤_, _<_}
+use Prim.Native.Nat.{ℕ, suc, _+_, _-_, _≤_, _<_}
 use native.Mathlib.Nat.{zero-add, sub-zero}
 use native.Mathlib.Decide.{ℕ-discrete}
 use native.Mathlib.Omega.{arith}
-use borrow.Author.Tests.{eqb-true, eqb-false, ne-eqb, eq-eqb, le-leb}
+use borrow.Author.Tests.{ne-eqb, eq-eqb}
 use lib.Dec.{eqb, leb}
-use lib.ListN.{length, take, drop, length-append, length-drop, drop-of-length-le}
-use lib.Seq.{slice, sets, length-sets, take-add, drop-drop, take-all}
+use lib.ListN.{length, take, drop, length-append, drop-of-length-le}
+use lib.Seq.{slice, sets, take-add, drop-drop}
 use Rattle.bits.proofs.WriteLaws.{sets-append}
-use Rattle.lines.specs.Line.{newline, longestLine, Put}
+use Rattle.lines.specs.Line.{newline, longestLine}
 use Rattle.frames.specs.Pieces.{State, mostHeld, answerTo, nextLine, hold, Ran, run, taken, beforeNewline, lineLength, Fed}
 use Rattle.lines.proofs.PutLaws.{slice-take}
 use Rattle.frames.proofs.ClipLaws.{clip-append, answer-hold, next-hold}

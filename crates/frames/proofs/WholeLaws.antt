@@ -1,18 +1,18 @@
 -- An input that is fed in pieces, cut in any way, gives the listing of the whole. Assumes nothing.
 use mathlib.Core.Path.{_≡_, refl, sym, ap, _∙_}
-use mathlib.Core.Bool.{Bool, true, false, _&&_, cond}
+use mathlib.Core.Bool.{Bool, true, false, cond}
 use mathlib.Core.List.{List, [], _∷_, _++_, flatMap, flatten, append-assoc, append-nil}
 use Prim.Native.Nat.{ℕ, suc, _-_, _<_, _≤_}
 use native.Mathlib.Decide.{ℕ-discrete}
 use native.Mathlib.Omega.{arith}
 use borrow.Author.Tests.{eq-eqb, ne-eqb, le-leb}
-use lib.Dec.{eqb, leb}
-use lib.ListN.{length, take, drop}
+use lib.Dec.{eqb}
+use lib.ListN.{length, take}
 use Rattle.slots.specs.declared.Params.{Params}
 use Rattle.slots.specs.Rules.{first, parameterRows}
-use Rattle.lines.specs.Line.{newline, Line, wellFormed, firstDigits, parametersOf, firstAnswer, answerLine, blockLine, longestLine, goodParameters, noParameters, firstLine, firstParameters, laterLine}
+use Rattle.lines.specs.Line.{newline, Line, wellFormed, firstDigits, parametersOf, firstAnswer, answerLine, blockLine, longestLine, goodParameters, noParameters, firstLine, firstParameters}
 use Rattle.frames.specs.Listing.{lastLine, linesAfter, listLines, listing}
-use Rattle.frames.specs.Pieces.{State, start, mostHeld, lineOf, answerTo, nextLine, hold, Ran, run, nothingLeft, ending, taken, feedAll}
+use Rattle.frames.specs.Pieces.{State, start, mostHeld, answerTo, nextLine, hold, run, nothingLeft, ending, taken, feedAll}
 use Rattle.frames.proofs.ClipLaws.{clip-append, answer-clip, next-clip}
 use Rattle.frames.proofs.PieceLaws.{run-newline, run-byte, run-append-state, run-append-output}
 

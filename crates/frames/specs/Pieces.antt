@@ -2,10 +2,9 @@
 use mathlib.Core.Path.{_≡_}
 use mathlib.Core.Bool.{Bool, true, false, not, _&&_, cond}
 use mathlib.Core.List.{List, [], _∷_, _++_}
-use Prim.Native.Nat.{ℕ, suc, _+_, _-_}
+use Prim.Native.Nat.{ℕ, suc, _-_}
 use lib.Dec.{eqb, leb}
 use lib.ListN.{length, take}
-use lib.Seq.{sets}
 use Rattle.slots.specs.declared.Params.{Params}
 use Rattle.frames.specs.declared.Partial.{Partial}
 use Rattle.lines.specs.Line.{newline, Line, goodParameters, noParameters, firstLine, firstParameters, laterLine, longestLine, Put}

@@ -1,7 +1,7 @@
 -- Laws of hexadecimal. Assumes nothing.
 use mathlib.Core.Path.{_≡_, refl, sym, ap, _∙_}
-use mathlib.Core.Bool.{Bool, true, false, _&&_, cond, and-eq-true-iff}
-use mathlib.Core.List.{List, [], _∷_, _++_}
+use mathlib.Core.Bool.{true, false, _&&_, and-eq-true-iff}
+use mathlib.Core.List.{List}
 use Prim.Native.Nat.{ℕ, zero, suc, _+_, _-_, _*_, _/_, _%_, _^_, _≤_, _<_}
 use native.Mathlib.Nat.{pow-suc, suc-mul, mul-comm, mul-assoc, mul-add, add-mul, add-assoc, lt-of-lt-of-le, mul-le-mul-left, pow-le-pow-right, one-le-pow, mod-lt, mod-one, mod-add-div, mod-eq-of-lt, add-mul-mod-self-left}
 use native.Mathlib.Decide.{decLt}

@@ -1,7 +1,7 @@
 // Lower case hexadecimal, read from and written to byte slices.
 ghost use mathlib.Core.Path.{_≡_};
 ghost use mathlib.Core.List.{flatMap};
-ghost use Prim.Native.Nat.{_+_, _-_, _*_, _≤_, _<_};
+ghost use Prim.Native.Nat.{_+_, _*_, _≤_, _<_};
 ghost use lib.ListN.{length};
 ghost use lib.Seq.{sets, slice};
 ghost use Rattle.lines.specs.Hex.{hexDigit, hexDigits, isDecimal, isLetter, isDigit, allDigits, digitValue, hexValue};

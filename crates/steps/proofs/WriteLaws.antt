@@ -1,8 +1,8 @@
 -- What the writer's functions write of a pair is what the stream has there. Assumes nothing.
 use mathlib.Core.Path.{ap₂, _≡_, sym, ap, _∙_, subst}
-use mathlib.Core.List.{List, [], _∷_, _++_}
+use mathlib.Core.List.{List}
 use Prim.Native.Nat.{ℕ, suc, _+_, _*_, _%_}
-use native.Mathlib.Nat.{add-zero, mod-lt}
+use native.Mathlib.Nat.{mod-lt}
 use native.Mathlib.Numerals.{add-one}
 use native.Mathlib.Omega.{arith}
 use lib.ListN.{replicate, length-replicate, length, set, length-append, length-set}

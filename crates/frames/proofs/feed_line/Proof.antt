@@ -1,5 +1,5 @@
 -- The bytes up to a newline are held, and the line is answered; or the piece ends before. Assumes nothing.
-use mathlib.Core.Path.{_≡_, sym, ap, _∙_}
+use mathlib.Core.Path.{sym, ap, _∙_}
 use native.Mathlib.Omega.{arith}
 use lib.ListN.{drop, length-drop}
 use Rattle.frames.specs.Pieces.{stateOf, Ran, beforeNewline}

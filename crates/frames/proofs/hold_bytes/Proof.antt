@@ -4,7 +4,7 @@ use mathlib.Core.List.{List}
 use Prim.Native.Nat.{ℕ}
 use native.Mathlib.Omega.{arith}
 use lib.ListN.{length}
-use Rattle.frames.specs.Pieces.{State, stateOf, hold}
+use Rattle.frames.specs.Pieces.{stateOf, hold}
 use borrow.Author.Needs.{needs}
 use Rattle.frames.proofs.hold_bytes.Statement.{statement}
 use Rattle.frames.proofs.hold_bytes.Tie as tie

@@ -3,9 +3,6 @@ use Rattle.frames.specs.Pieces.{stateOf, stopped}
 use borrow.Author.Needs.{needs}
 use Rattle.frames.proofs.stopped.Statement.{statement}
 use Rattle.frames.proofs.stopped.Tie as tie
-use Rattle.frames.proofs.stopped.Reads as reads
-use Rattle.frames.proofs.stopped.Lts as lts
-use Rattle.slots.proofs.rows.parameter_row.Reads as parameter-row-reads
 
 -- src/lib.rt:60:9
 parameter-row-requires : tie.Need-parameter-row-requires

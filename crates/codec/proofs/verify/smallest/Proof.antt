@@ -1,7 +1,6 @@
 -- One plane is the fewest; of more, the lowest has a one. Assumes nothing.
 use borrow.Author.Tests.{eq-eqb, ne-eqb}
 use Prim.Native.Nat.{_-_}
-use mathlib.Core.Path.{sym, refl}
 use borrow.Author.Needs.{needs}
 use Rattle.codec.proofs.verify.smallest.Statement.{statement}
 use Rattle.codec.proofs.verify.smallest.Tie as tie

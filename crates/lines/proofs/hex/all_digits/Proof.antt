@@ -1,10 +1,9 @@
 -- The invariant: the bytes passed are digits, so the rest decides. Assumes nothing.
 use mathlib.Core.Path.{_≡_, refl, sym, _∙_}
-use mathlib.Core.Bool.{true, false}
 use Prim.Native.Nat.{_-_, _≤_}
 use native.Mathlib.Omega.{arith}
 use borrow.Author.Tests.{not-true, not-false}
-use lib.ListN.{length, drop, drop-of-length-le, getD}
+use lib.ListN.{length, drop, drop-of-length-le}
 use native.Mathlib.Numerals.{add-one}
 use Rattle.lines.specs.Hex.{allDigits}
 use Rattle.lines.proofs.HexLaws.{digit-first}

@@ -1,8 +1,7 @@
 -- The invariant: what is left of the digits, after the number so far, gives the number; and so many digits fit. Assumes nothing.
-use mathlib.Core.Path.{_≡_, refl, sym, _∙_}
+use mathlib.Core.Path.{_≡_, refl, _∙_}
 use Prim.Native.Nat.{_+_, _-_, _*_, _^_, _≤_, _<_, suc}
 use native.Mathlib.Omega.{arith}
-use lib.ListN.{getD}
 use lib.Seq.{slice, slice-empty}
 use Rattle.lines.specs.Hex.{valueAfter, hexValue}
 use Rattle.lines.proofs.HexLaws.{value-turn, digit-more, eight-fit}
