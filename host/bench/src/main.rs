@@ -16,8 +16,8 @@ proved: the static library. reference: plain Rust, written for clarity.
 The programs take turns in every round; ratios are of the times of one round, with their median and (lower to
 upper quartile). Below 1, the proved library is faster.
 Archives are zeroed once; each later pass stores the same blocks over what the one before it left.
-An exact read of the proved library and of the reference codes the block again and compares the slot with it
-(answer 11); libzfp looks for no damage. libzfp goes through one open stream, slot after slot.
+An exact read of the proved library also tells whether the slot is some block's padded code (answer 11), and the
+reference codes the block again for that; libzfp does neither. libzfp goes through one open stream, slot after slot.
 All programs write the same bytes, which is checked before the time is taken.
 ";
 
