@@ -35,12 +35,11 @@ module _ (s : List Bool) where
       k ∙ rw (g, part-back (i + m) c h, f, p, q) (copied-more d at i m c h)
 
   -- whole bytes after the first m bits
-  pub copied-bytes : {e e′ : List Bool} (d : List Bool) (at m bytes n start : ℕ) → m + 8 * bytes ≤ length s → (0 < bytes → 8 * start ≡ at + m) → n ≡ m + 8 * bytes
-      → e ≡ sets d at (slice 0 (0 + m) s) → e′ ≡ sets e (8 * start) (slice m (m + 8 * bytes) s) → e′ ≡ sets d at (slice 0 (0 + n) s)
-  copied-bytes d at m zero n start h p q f k =
+  pub copied-bytes : {e e′ : List Bool} (d : List Bool) (at i m bytes n start : ℕ) → i + m + 8 * bytes ≤ length s → (0 < bytes → 8 * start ≡ at + m) → n ≡ m + 8 * bytes
+      → e ≡ sets d at (slice i (i + m) s) → e′ ≡ sets e (8 * start) (slice (i + m) (i + m + 8 * bytes) s) → e′ ≡ sets d at (slice i (i + n) s)
+  copied-bytes d at i m zero n start h p q f k =
       let q′ : n ≡ m = omega arith in
-      k ∙ rw (slice-none s m (m + 8 * 0) (omega arith), q′) f
-  copied-bytes d at m (suc b) n start h p q f k =
+      k ∙ rw (slice-none s (i + m) (i + m + 8 * 0) (omega arith), q′) f
+  copied-bytes d at i m (suc b) n start h p q f k =
       let p′ : 8 * start ≡ at + m = p (omega arith) in
-      let z : 0 + m ≡ m = omega arith in
-      k ∙ rw (p′, f, q, z) (rw z at (copied-more d at 0 m (8 * suc b) (omega arith)))
+      k ∙ rw (p′, f, q) (copied-more d at i m (8 * suc b) h)

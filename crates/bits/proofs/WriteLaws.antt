@@ -9,6 +9,7 @@ use native.Mathlib.Omega.{arith}
 use lib.ListN.{length, getD, set, take, length-append, length-take, drop}
 use mathlib.Core.Logic.{_⊎_, inl, inr}
 use lib.Seq.{slice, take-set-le, take-set-lt, drop-set-lt, length-take-le, take-add, take-append-add, drop-at, sets-eq, sets, length-sets, take-nil, take-all, getD-set-other}
+use Rattle.bits.specs.declared.Cursor.{Cursor}
 use Rattle.bits.specs.Stream.{numberBits, write, Written}
 use Rattle.bits.proofs.NumberLaws.{length-numberBits, numberBits-add, numberBits-take}
 
@@ -127,20 +128,20 @@ slice-write d at limit end code h k l =
     ∙ ap (λ (x : List Bool). code ++ x) (sym (ap (λ (i : ℕ). drop n (take i d)) e′ ∙ ap (drop n) (take-add n (end - n) d) ∙ drop-at (take n d) (take (end - n) (drop n d)) n first))
 
 -- what one part wrote, and then another
-pub written-none : (d : List Bool) (at limit : ℕ) → Written d d at limit [] at
-written-none d at limit = record { bits = sym (write-none d at limit); moved = omega arith }
+pub written-none : (d : List Bool) (out : Cursor) (limit : ℕ) → Written d d out limit [] out
+written-none d out limit = record { bits = sym (write-none d (out .at) limit); moved = omega arith }
 
-pub written-append : {before mid after xs ys : List Bool} {at limit at₁ at₂ : ℕ}
-    → Written before mid at limit xs at₁ → Written mid after at₁ limit ys at₂ → Written before after at limit (xs ++ ys) at₂
-written-append {before} {xs = xs} {ys} {at} {limit} p q =
+pub written-append : {before mid after xs ys : List Bool} {limit : ℕ} {out out₁ out₂ : Cursor}
+    → Written before mid out limit xs out₁ → Written mid after out₁ limit ys out₂ → Written before after out limit (xs ++ ys) out₂
+written-append {before} {xs = xs} {ys} {limit} {out} p q =
     record {
-      bits = rw (write-append before at limit xs ys, ← (p .bits), ← (p .moved)) (q .bits);
+      bits = rw (write-append before (out .at) limit xs ys, ← (p .bits), ← (p .moved)) (q .bits);
       moved = omega (arith, p .moved, q .moved, length-append xs ys);
     }
 
 -- a number from here on: its first k bits are written, and then the others
-pub number-more : {d d₁ : List Bool} (at limit at₁ k left rest : ℕ) → k ≤ left → Written d d₁ at limit (numberBits k rest) at₁
-    → write d₁ at₁ limit (numberBits (left - k) (rest / 2 ^ k)) ≡ write d at limit (numberBits left rest)
-number-more {d} at limit at₁ k left rest h r =
+pub number-more : {d d₁ : List Bool} {out₁ : Cursor} (out : Cursor) (limit k left rest : ℕ) → k ≤ left → Written d d₁ out limit (numberBits k rest) out₁
+    → write d₁ (out₁ .at) limit (numberBits (left - k) (rest / 2 ^ k)) ≡ write d (out .at) limit (numberBits left rest)
+number-more {d} out limit k left rest h r =
     let e : k + (left - k) ≡ left = omega arith in
-    rw (r .bits, r .moved, ← write-append d at limit (numberBits k rest) (numberBits (left - k) (rest / 2 ^ k)), ← numberBits-add k (left - k) rest, e)
+    rw (r .bits, r .moved, ← write-append d (out .at) limit (numberBits k rest) (numberBits (left - k) (rest / 2 ^ k)), ← numberBits-add k (left - k) rest, e)

@@ -6,6 +6,7 @@ use Prim.Native.Nat.{ℕ, _+_, _-_, _*_, _/_, _^_, _≤_}
 use native.Mathlib.Omega.{arith}
 use lib.ListN.{length}
 use lib.Seq.{slice}
+use Rattle.bits.specs.declared.Cursor.{Cursor}
 use Rattle.bits.specs.Stream.{Written}
 use Rattle.bits.proofs.WriteLaws.{slice-write}
 use Rattle.planes.specs.Coder.{planesCode}
@@ -14,11 +15,11 @@ use Rattle.planes.proofs.Bound.{bound}
 use Rattle.planes.proofs.Back.{words-top}
 use Rattle.planes.proofs.Words.{Below}
 
-pub planes-back : {d d₁ : List Bool} {next : ℕ} (w p end : ℕ) (ws : List ℕ) → Below w ws → p ≤ w → 1 ≤ length ws
-    → length ws * p + length ws - 1 ≤ end → end ≤ length d → Written d d₁ 0 end (planesCode w p ws) next
+pub planes-back : {d d₁ : List Bool} {out next : Cursor} (w p end : ℕ) (ws : List ℕ) → Below w ws → p ≤ w → 1 ≤ length ws
+    → length ws * p + length ws - 1 ≤ end → end ≤ length d → out .at ≡ 0 → Written d d₁ out end (planesCode w p ws) next
     → readWords w (length ws) p (slice 0 end d₁) ≡ map (λ x. x / 2 ^ (w - p) * 2 ^ (w - p)) ws
-planes-back {d} w p end ws below few some room fits r =
+planes-back {d} w p end ws below few some room fits start r =
     let code = planesCode w p ws in
-    ap (λ (l : List Bool). readWords w (length ws) p (slice 0 end l)) (r .bits)
+    ap (λ (l : List Bool). readWords w (length ws) p (slice 0 end l)) (rw start at (r .bits))
     ∙ ap (readWords w (length ws) p) (slice-write d 0 end end code (omega (arith, bound w p ws some)) (omega arith) fits)
     ∙ words-top w p ws (slice (0 + length code) end d) below few

@@ -66,8 +66,8 @@ fn test(
 ) -> Coder
     requires { ⌜ (k < 64) × (n ≤ length (now words)) × (end ≡ onesEnd (plane k (now words))) × (limit ≤ 8 * length (now buf))
         × (out .at + 2 * (length (now words) - n) < 2 ^ 32) ⌝ }
-    ensures { λ r. ⌜ Advanced (bitsOf (now (buf .entry))) (bitsOf (now (buf .exit))) (out .at) limit
-        (test (drop n (plane k (now (words .entry))))) (planeNext n (plane k (now (words .entry)))) (r .out .at) (r .n) ⌝ }
+    ensures { λ r. ⌜ Advanced (bitsOf (now (buf .entry))) (bitsOf (now (buf .exit))) out limit
+        (test (drop n (plane k (now (words .entry))))) (planeNext n (plane k (now (words .entry)))) (r .out) (r .n) ⌝ }
 {
     if n < words.len() {
         if n < end {
@@ -94,8 +94,8 @@ fn scan(
 ) -> Coder
     requires { ⌜ (k < 64) × (n < length (now words)) × (end ≡ onesEnd (plane k (now words))) × (limit ≤ 8 * length (now buf))
         × (out .at + 2 * (length (now words) - n) < 2 ^ 32 + 1) ⌝ }
-    ensures { λ r. ⌜ Advanced (bitsOf (now (buf .entry))) (bitsOf (now (buf .exit))) (out .at) limit
-        (scan (drop n (plane k (now (words .entry))))) (n + scanMoves (drop n (plane k (now (words .entry))))) (r .out .at) (r .n) ⌝ }
+    ensures { λ r. ⌜ Advanced (bitsOf (now (buf .entry))) (bitsOf (now (buf .exit))) out limit
+        (scan (drop n (plane k (now (words .entry))))) (n + scanMoves (drop n (plane k (now (words .entry))))) (r .out) (r .n) ⌝ }
 {
     let past = n + 1;
     if past < words.len() {
@@ -114,7 +114,7 @@ fn scan(
 // The n first bits of plane k, as they are.
 fn verbatim(words: &[u64], k: u32, n: usize, buf: &mut [u8], out: Cursor, limit: usize) -> Cursor
     requires { ⌜ (k < 64) × (n ≤ length (now words)) × (limit ≤ 8 * length (now buf)) × (out .at + n < 2 ^ 32) ⌝ }
-    ensures { λ r. ⌜ Written (bitsOf (now (buf .entry))) (bitsOf (now (buf .exit))) (out .at) limit (take n (plane k (now (words .entry)))) (r .at) ⌝ }
+    ensures { λ r. ⌜ Written (bitsOf (now (buf .entry))) (bitsOf (now (buf .exit))) out limit (take n (plane k (now (words .entry)))) r ⌝ }
 {
     let mut next = out;
     let mut i = 0;
@@ -128,8 +128,8 @@ fn verbatim(words: &[u64], k: u32, n: usize, buf: &mut [u8], out: Cursor, limit:
 // Plane k: its n first bits as they are, then a test, if places are left.
 fn put_plane(words: &[u64], k: u32, n: usize, buf: &mut [u8], out: Cursor, limit: usize) -> Coder
     requires { ⌜ (k < 64) × (n ≤ length (now words)) × (limit ≤ 8 * length (now buf)) × (out .at + 2 * length (now words) < 2 ^ 32) ⌝ }
-    ensures { λ r. ⌜ Advanced (bitsOf (now (buf .entry))) (bitsOf (now (buf .exit))) (out .at) limit
-        (planeCode n (plane k (now (words .entry)))) (planeNext n (plane k (now (words .entry)))) (r .out .at) (r .n) ⌝ }
+    ensures { λ r. ⌜ Advanced (bitsOf (now (buf .entry))) (bitsOf (now (buf .exit))) out limit
+        (planeCode n (plane k (now (words .entry)))) (planeNext n (plane k (now (words .entry)))) (r .out) (r .n) ⌝ }
 {
     let next = verbatim(words, k, n, buf, out, limit);
     if n < words.len() {
@@ -150,7 +150,7 @@ pub fn put_planes(
     limit: usize,
 ) -> Coded
     requires { ⌜ (size ≤ 64) × (p ≤ size) × (length (now words) ≤ 256) × (limit ≤ 8 * length (now buf)) × (out .at < 2 ^ 31) ⌝ }
-    ensures { λ r. ⌜ Written (bitsOf (now (buf .entry))) (bitsOf (now (buf .exit))) (out .at) limit (planesCode size p (now (words .entry))) (r .out .at) ⌝ }
+    ensures { λ r. ⌜ Written (bitsOf (now (buf .entry))) (bitsOf (now (buf .exit))) out limit (planesCode size p (now (words .entry))) (r .out) ⌝ }
 {
     let lowest = size - p;
     let mut next = out;

@@ -1,6 +1,6 @@
 -- The rest of a byte, whole bytes, and the rest of the bits. Assumes nothing.
 use Rattle.bits.proofs.CopyLaws.{copied-part, copied-bytes}
-use Rattle.bits.proofs.StreamLaws.{length-bitsOf}
+use Rattle.bits.proofs.StreamLaws.{length-bitsOf, slice-none}
 use Rattle.bits.specs.Stream.{bitsOf}
 use native.Mathlib.Omega.{arith}
 use Prim.Native.Nat.{_+_, _-_, _*_, _/_}
@@ -27,6 +27,9 @@ sub-bytes c = search needs
 add-copy-bytes : tie.Need-add-copy-bytes
 add-copy-bytes c = search needs
 
+add-copy-bytes-2 : tie.Need-add-copy-bytes-2
+add-copy-bytes-2 c = search needs
+
 copy-bytes-requires : tie.Need-copy-bytes-requires
 copy-bytes-requires c κs = search needs
 
@@ -35,6 +38,9 @@ mul-done c = search needs
 
 add-done : tie.Need-add-done
 add-done c = search needs
+
+add-get-bits : tie.Need-add-get-bits
+add-get-bits c = search needs
 
 sub-get-bits : tie.Need-sub-get-bits
 sub-get-bits c = search needs
@@ -64,14 +70,17 @@ returns c =
     let s = got₁ .before .before .before .before in
     let bits = bitsOf (s .args .from .now) in
     let d = bitsOf (s .args .buf .now) in
+    let skip = s .args .skip in
     let at = s .args .at in
     let count = s .args .count in
     let first = got₁ .before .least .result in
     let bytes = (count - first) / 8 in
-    let z : 0 + (first + 8 * bytes) ≡ first + 8 * bytes = omega arith in
-    let after₁ = copied-part bits d at 0 0 first first _ at (omega (arith, length-bitsOf (s .args .from .now))) (omega arith) (omega arith) refl (got₁ .get-bits .ensures) (one .put-part .ensures) in
-    let after₂ = copied-bytes bits d at first bytes (first + 8 * bytes) _ (omega (arith, length-bitsOf (s .args .from .now))) (λ h. omega arith) refl after₁ (two .copy-bytes .ensures) in
-    copied-part bits d at 0 (first + 8 * bytes) (count - (first + 8 * bytes)) count _ _ (omega (arith, length-bitsOf (s .args .from .now))) refl (omega arith) after₂ (rw z (got .get-bits2 .ensures)) (three .put-part2 .ensures)
+    let fits = length-bitsOf (s .args .from .now) in
+    let here : skip + 0 ≡ skip = omega arith in
+    let none = slice-none bits skip (skip + 0) (omega arith) in
+    let after₁ = copied-part bits d at skip 0 first first _ at (omega (arith, fits)) (omega arith) (omega arith) (rw none) (rw here (got₁ .get-bits .ensures)) (one .put-part .ensures) in
+    let after₂ = copied-bytes bits d at skip first bytes (first + 8 * bytes) _ (omega (arith, fits)) (λ h. omega arith) refl after₁ (two .copy-bytes .ensures) in
+    copied-part bits d at skip (first + 8 * bytes) (count - (first + 8 * bytes)) count _ _ (omega (arith, fits)) refl (omega arith) after₂ (got .get-bits2 .ensures) (three .put-part2 .ensures)
 
 pub copy-bits-spec : {M : Type 1} → statement M
 copy-bits-spec =
@@ -83,9 +92,11 @@ copy-bits-spec =
     put-part-requires
     sub-bytes
     add-copy-bytes
+    add-copy-bytes-2
     copy-bytes-requires
     mul-done
     add-done
+    add-get-bits
     sub-get-bits
     get-bits-requires-2
     add-put-part

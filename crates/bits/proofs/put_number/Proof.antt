@@ -37,7 +37,7 @@ loop-again c =
     let s = call .before .before .before .before .before in (
       call .put-bits .kept .0 ∙ l .inv .0,
       omega (arith, call .put-bits .ensures .moved, length-numberBits 8 (l .rest)),
-      number-more (l .next .at) (s .args .limit) _ 8 (l .left) (l .rest) (omega arith) (call .put-bits .ensures) ∙ l .inv .2,
+      number-more (l .next) (s .args .limit) 8 (l .left) (l .rest) (omega arith) (call .put-bits .ensures) ∙ l .inv .2,
     )
 
 put-bits-requires-2 : tie.Need-put-bits-requires-2 Inv-loop μ-loop

@@ -6,6 +6,7 @@ use Prim.Native.Nat.{ℕ, _+_, _-_, _*_, _≤_}
 use native.Mathlib.Omega.{arith}
 use borrow.Author.Needs.{needs}
 use lib.ListN.{length}
+use Rattle.bits.specs.declared.Cursor.{Cursor}
 use Rattle.bits.specs.Stream.{bitsOf, Written}
 use Rattle.bits.proofs.WriteLaws.{written-none}
 use Rattle.planes.specs.Coder.{planesOf, codeFrom, planesCode}
@@ -17,9 +18,9 @@ use Rattle.planes.proofs.writer.put_planes.Tie as tie
 abbrev Inv-loop : tie.InvT-loop
 Inv-loop size words p buf₀ limit lowest next₀ n₀ k₀ buf next n k =
     (lowest ≤ k) × (k ≤ size) × (n ≤ length words) × (length buf ≡ length buf₀) × (next .at ≤ next₀ .at + 512 * (size - k))
-    × ((after : List Bool) (end : ℕ)
-    → Written (bitsOf buf) after (next .at) limit (codeFrom n (planesOf k (k - lowest) words)) end
-    → Written (bitsOf buf₀) after (next₀ .at) limit (planesCode size p words) end)
+    × ((after : List Bool) (end : Cursor)
+    → Written (bitsOf buf) after next limit (codeFrom n (planesOf k (k - lowest) words)) end
+    → Written (bitsOf buf₀) after next₀ limit (planesCode size p words) end)
 
 abbrev μ-loop : tie.MeasureT-loop
 μ-loop size words p buf₀ limit lowest next₀ n₀ k₀ buf next n k = k

@@ -14,7 +14,7 @@ use Rattle.planes.proofs.writer.verbatim.Tie as tie
 abbrev Inv-loop : tie.InvT-loop
 Inv-loop words k n buf₀ limit next₀ i₀ buf next i =
     (i ≤ n) × (length buf ≡ length buf₀) × (next .at ≡ next₀ .at + i)
-    × Written (bitsOf buf₀) (bitsOf buf) (next₀ .at) limit (take i (plane k words)) (next .at)
+    × Written (bitsOf buf₀) (bitsOf buf) next₀ limit (take i (plane k words)) next
 
 abbrev μ-loop : tie.MeasureT-loop
 μ-loop words k n buf₀ limit next₀ i₀ buf next i = n - i
