@@ -2,9 +2,10 @@
 
 use crate::run::through_pipe;
 use std::fs;
+use testing::repository;
 
 fn sample(name: &str) -> (String, String) {
-    let folder = listing::repository().join("samples");
+    let folder = repository().join("samples");
     let text = |ending| fs::read_to_string(folder.join(format!("{name}.{ending}"))).unwrap();
     (text("txt"), text("out"))
 }
