@@ -42,4 +42,6 @@ fn the_pages_say_what_is_counted() {
         first.damaged, first.refused, first.other
     );
     assert!(page("README.md").contains(&sentence), "README.md does not say: {sentence}");
+    let header = format!("Of {} damaged slots of exact readings {}\n", first.damaged, first.refused);
+    assert!(page("include/windlassow.h").contains(&header), "the header does not say: {header}");
 }
