@@ -87,10 +87,14 @@ fn make(words: &[&str], root: &Path, file: &Path) {
 /// goes by those of an earlier run.
 fn can_write(folder: &Path) -> io::Result<()> {
     fs::create_dir_all(folder)?;
-    let probe = folder.join("probe");
+    let probe = folder.join(format!("probe-{}", std::process::id()));
     fs::write(&probe, "probe\n")?;
     for entry in fs::read_dir(folder)? {
-        File::options().append(true).open(entry?.path())?;
+        match File::options().append(true).open(entry?.path()) {
+            // Another build script's probe.
+            Err(error) if error.kind() == io::ErrorKind::NotFound => {}
+            opened => drop(opened?),
+        }
     }
     fs::remove_file(probe)
 }
