@@ -43,6 +43,15 @@
  *   width      the bits W of a slot; 0 stands for 8 bits a word
  *   An archive is read with the parameters that it was written with.
  *
+ * Limits
+ *   words of a block, N           4 (dimension 1) or 16 (dimension 2)
+ *   planes, P                     1 to 32
+ *   bits of a slot, W             16 to 1,024, or 0 for 8N
+ *   bytes of an archive           65,536
+ *   entries of an FPC table       a power of two from 16 to 1,024, the same for both
+ *   doubles of a run              4,096
+ *   bytes to read as a stream     65,536; no run's stream is longer than 34,816
+ *
  * Archives
  *   Slot k starts at bit kW. Bit t of an archive is bit t mod 8 of byte t / 8, lowest first.
  *   The slot count is 8 x length / W, rounded down. Every exact block of N words fits a slot of
@@ -96,20 +105,20 @@ enum {
     WINDLASSOW_NOT_A_STREAM = 23
 };
 
-/* Limits. */
+/* Limits, as in the table above. */
 enum {
-    WINDLASSOW_MAX_PLANES = 32,            /* planes: 1 to this */
-    WINDLASSOW_MIN_WIDTH = 16,             /* width in bits: 0, or from this .. */
-    WINDLASSOW_MAX_WIDTH = 1024,           /* .. to this */
-    WINDLASSOW_MAX_ARCHIVE_LEN = 65536,    /* bytes of an archive */
-    WINDLASSOW_MIN_TABLE_LEN = 16,         /* entries of an FPC table: a power of two from this .. */
-    WINDLASSOW_MAX_TABLE_LEN = 1024,       /* .. to this */
-    WINDLASSOW_MAX_RUN_LEN = 4096,         /* doubles of a run */
-    WINDLASSOW_MAX_STREAM_LEN = 65536      /* bytes that windlassow_fpc_read looks at */
+    WINDLASSOW_MAX_PLANES = 32,
+    WINDLASSOW_MIN_WIDTH = 16,
+    WINDLASSOW_MAX_WIDTH = 1024,
+    WINDLASSOW_MAX_ARCHIVE_LEN = 65536,
+    WINDLASSOW_MIN_TABLE_LEN = 16,
+    WINDLASSOW_MAX_TABLE_LEN = 1024,
+    WINDLASSOW_MAX_RUN_LEN = 4096,
+    WINDLASSOW_MAX_STREAM_LEN = 65536
 };
 
-/* The words N of a block of dimension 1 or 2. */
-#define WINDLASSOW_BLOCK_LEN(dimension) ((dimension) == 1 ? 4 : 16)
+/* The words N of a block. */
+#define WINDLASSOW_BLOCK_LEN(dimension) (1 << (2 * (dimension)))
 
 /* The widths that take every exact block of N words. */
 #define WINDLASSOW_EXACT_INTEGERS_WIDTH(n) (33 * (n) + 4)
