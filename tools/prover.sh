@@ -74,6 +74,8 @@ interrupted() {
     exit $((128 + $1))
 }
 
+# A group of its own is in the terminal's background, where 'stty tostop' would stop it at its first word.
+trap '' TTOU
 trap 'interrupted 1' HUP
 trap 'interrupted 2' INT
 trap 'interrupted 15' TERM
