@@ -2,7 +2,7 @@
 
 use std::fs::{self, File};
 use std::path::{Path, PathBuf};
-use std::process::{Command, exit};
+use std::process::{Command, ExitStatus, Stdio, exit};
 use std::time::SystemTime;
 use std::{env, io};
 
@@ -58,8 +58,8 @@ fn newest(folder: &Path) -> io::Result<SystemTime> {
 fn make(words: &[&str], root: &Path, file: &Path) {
     let command = format!("rt {}", words.join(" "));
     let target = root.join("target");
-    fs::create_dir_all(&target)
-        .unwrap_or_else(|error| fail(&format!("cannot make {}: {error}", target.display())));
+    let logs = target.join("log");
+    can_write(&logs).unwrap_or_else(|error| fail(&format!("cannot write to {}: {error}", logs.display())));
     if Command::new("rt").arg("help").output().is_err() {
         fail(&format!(
             "{} is missing or older than crates/, and the Rattle kit's command 'rt', which makes it, is not on \
@@ -67,12 +67,12 @@ fn make(words: &[&str], root: &Path, file: &Path) {
             file.display()
         ));
     }
-    let lock = target.join("host.lock");
-    let output = Command::new("flock").arg(&lock).arg("rt").args(words).current_dir(root).output();
-    let output = output.unwrap_or_else(|error| fail(&format!("cannot run 'flock' for '{command}': {error}")));
-    if !output.status.success() {
-        let said = [output.stdout, output.stderr].concat();
-        fail(&format!("'{command}' failed ({}):\n{}", output.status, String::from_utf8_lossy(&said)));
+    let log = target.join(format!("{}.log", words.join("-")));
+    let status = run(words, root, &target.join("host.lock"), &log);
+    let status = status.unwrap_or_else(|error| fail(&format!("cannot run 'flock' for '{command}': {error}")));
+    if !status.success() {
+        let said = fs::read(&log).unwrap_or_default();
+        fail(&format!("'{command}' failed ({status}):\n{}", String::from_utf8_lossy(&said)));
     }
     if !file.exists() {
         fail(&format!("'{command}' ended well but wrote no {}", file.display()));
@@ -81,6 +81,30 @@ fn make(words: &[&str], root: &Path, file: &Path) {
     if !up_to_date(file, root) {
         touch(file).unwrap_or_else(|error| fail(&format!("cannot touch {}: {error}", file.display())));
     }
+}
+
+/// That a file of the folder can be made, and that those there can be written. Where `rt` cannot write its results it
+/// goes by those of an earlier run.
+fn can_write(folder: &Path) -> io::Result<()> {
+    fs::create_dir_all(folder)?;
+    let probe = folder.join(format!("probe-{}", std::process::id()));
+    fs::write(&probe, "probe\n")?;
+    for entry in fs::read_dir(folder)? {
+        match File::options().append(true).open(entry?.path()) {
+            // Another build script's probe.
+            Err(error) if error.kind() == io::ErrorKind::NotFound => {}
+            opened => drop(opened?),
+        }
+    }
+    fs::remove_file(probe)
+}
+
+/// What `rt` says goes to `log` as it says it, since cargo shows nothing of a build script before its end.
+fn run(words: &[&str], root: &Path, lock: &Path, log: &Path) -> io::Result<ExitStatus> {
+    let said = File::create(log)?;
+    let mut rt = Command::new("flock");
+    rt.arg(lock).arg("rt").args(words).current_dir(root).stdin(Stdio::null());
+    rt.stdout(said.try_clone()?).stderr(said).status()
 }
 
 fn touch(file: &Path) -> io::Result<()> {

@@ -43,10 +43,31 @@
  *   width      the bits W of a slot; 0 stands for 8 bits a word
  *   An archive is read with the parameters that it was written with.
  *
+ * Limits
+ *   words of a block, N           4 (dimension 1) or 16 (dimension 2)
+ *   planes, P                     1 to 32
+ *   bits of a slot, W             16 to 1,024, or 0 for 8N
+ *   bytes of an archive           65,536
+ *   entries of an FPC table       a power of two from 16 to 1,024, the same for both
+ *   doubles of a run              4,096
+ *   bytes to read as a stream     65,536; no run's stream is longer than 34,816
+ *
  * Archives
  *   Slot k starts at bit kW. Bit t of an archive is bit t mod 8 of byte t / 8, lowest first.
  *   The slot count is 8 x length / W, rounded down. Every exact block of N words fits a slot of
  *   33N + 4 bits (integers) or 33N + 14 bits (float patterns).
+ *
+ * Damage is not detected
+ *   Answers 11 and 23 say that no block or run has these bits. They are no check of the bytes: a
+ *   damaged slot or stream is often another block's or run's own code and is then read as that
+ *   one, with answer 0. A slot of zeros reads as zeros. Of 62 damaged slots of exact readings 32
+ *   were answered 11 (docs/TRUST.md has the counts). If bytes can be lost, keep a checksum of the
+ *   archive or stream beside it. A lossy read never answers 11.
+ *
+ * Building
+ *   rt staticlib windlassow      proves the crates, which takes minutes the first time, and writes
+ *                                target/staticlib/libwindlassow.a
+ *   cc -I include program.c target/staticlib/libwindlassow.a -o program
  */
 #ifndef WINDLASSOW_H
 #define WINDLASSOW_H
@@ -57,6 +78,54 @@
 #ifdef __cplusplus
 extern "C" {
 #endif
+
+/* Kinds: what the words of a block are. */
+enum { WINDLASSOW_KIND_INTEGERS = 0, WINDLASSOW_KIND_FLOATS = 1 };
+
+/* Modes. */
+enum { WINDLASSOW_MODE_LOSSY = 0, WINDLASSOW_MODE_EXACT = 1 };
+
+/* Answers, as in the table above. */
+enum {
+    WINDLASSOW_DONE = 0,
+    WINDLASSOW_INVALID_KIND = 1,
+    WINDLASSOW_INVALID_DIMENSION = 2,
+    WINDLASSOW_INVALID_MODE = 3,
+    WINDLASSOW_INVALID_PLANES = 4,
+    WINDLASSOW_INVALID_WIDTH = 5,
+    WINDLASSOW_ARCHIVE_TOO_LONG = 6,
+    WINDLASSOW_NO_SUCH_SLOT = 7,
+    WINDLASSOW_INVALID_BLOCK_LEN = 8,
+    WINDLASSOW_NOT_FINITE = 9,
+    WINDLASSOW_CODE_TOO_LONG = 10,
+    WINDLASSOW_NOT_A_CODE = 11,
+    WINDLASSOW_INVALID_TABLES = 20,
+    WINDLASSOW_INPUT_TOO_LONG = 21,
+    WINDLASSOW_OUTPUT_TOO_LONG = 22,
+    WINDLASSOW_NOT_A_STREAM = 23
+};
+
+/* Limits, as in the table above. */
+enum {
+    WINDLASSOW_MAX_PLANES = 32,
+    WINDLASSOW_MIN_WIDTH = 16,
+    WINDLASSOW_MAX_WIDTH = 1024,
+    WINDLASSOW_MAX_ARCHIVE_LEN = 65536,
+    WINDLASSOW_MIN_TABLE_LEN = 16,
+    WINDLASSOW_MAX_TABLE_LEN = 1024,
+    WINDLASSOW_MAX_RUN_LEN = 4096,
+    WINDLASSOW_MAX_STREAM_LEN = 65536
+};
+
+/* The words N of a block. */
+#define WINDLASSOW_BLOCK_LEN(dimension) (1 << (2 * (dimension)))
+
+/* The widths that take every exact block of N words. */
+#define WINDLASSOW_EXACT_INTEGERS_WIDTH(n) (33 * (n) + 4)
+#define WINDLASSOW_EXACT_FLOATS_WIDTH(n) (33 * (n) + 14)
+
+/* Room for the stream of any run of n doubles, in bytes. */
+#define WINDLASSOW_STREAM_ROOM(n) (17 * (((n) + 1) / 2))
 
 /* What every call returns: the answer number and its count. */
 struct windlassow_reply {
@@ -75,7 +144,8 @@ struct windlassow_reply windlassow_store(
 
 /*
  * Reads a slot into the words.
- * Answers 0 to 8 and 11. Count when done: the words of a block. A lossy read takes any slot.
+ * Answers 0 to 8 and 11. Count when done: the words of a block. A lossy read takes any slot, and
+ * 11 is no detector of damage: see above.
  */
 struct windlassow_reply windlassow_read(
     uint32_t kind, uint32_t dimension, uint32_t mode, uint32_t planes, uint32_t width,

@@ -1,7 +1,12 @@
-/* The six calls of windlassow.h, on cases of document 01. Compiles as C99 and as C++. */
+/* The six calls of windlassow.h, on cases of document 01. Compiles as C99 and as C++. From the repository's folder:
+ *   rt staticlib windlassow
+ *   cc -I include host/c/example.c target/staticlib/libwindlassow.a -o target/example
+ */
 #include <stdio.h>
 #include <string.h>
 #include "windlassow.h"
+
+enum { KIND = WINDLASSOW_KIND_INTEGERS, MODE = WINDLASSOW_MODE_EXACT, PLANES = WINDLASSOW_MAX_PLANES, WIDTH = 48 };
 
 static void print(const char *call, struct windlassow_reply r) {
     printf("%s: answer %u, count %u\n", call, (unsigned)r.answer, (unsigned)r.count);
@@ -17,22 +22,24 @@ static void slots(void) {
     const uint32_t ones[4] = {1, 1, 1, 1}, wide[4] = {0xaaaaaaab, 0x55555556, 0xaaaaaaac, 0x55555558};
     uint32_t back[4];
     memset(archive, 0xff, sizeof archive);
-    print("slot_count", windlassow_slot_count(0, 1, 1, 32, 48, archive, sizeof archive));
-    print("bit_count", windlassow_bit_count(0, 1, 1, 32, 48, wide, 4));
-    print("store", windlassow_store(0, 1, 1, 32, 48, archive, sizeof archive, 1, ones, 4));
-    print("store", windlassow_store(0, 1, 1, 32, 48, archive, sizeof archive, 0, wide, 4));
+    print("slot_count", windlassow_slot_count(KIND, 1, MODE, PLANES, WIDTH, archive, sizeof archive));
+    print("bit_count", windlassow_bit_count(KIND, 1, MODE, PLANES, WIDTH, wide, 4));
+    print("store", windlassow_store(KIND, 1, MODE, PLANES, WIDTH, archive, sizeof archive, 1, ones, 4));
+    print("store", windlassow_store(KIND, 1, MODE, PLANES, WIDTH, archive, sizeof archive, 0, wide, 4));
     bytes(archive, sizeof archive);
-    print("read", windlassow_read(0, 1, 1, 32, 48, archive, sizeof archive, 1, back, 4));
+    print("read", windlassow_read(KIND, 1, MODE, PLANES, WIDTH, archive, sizeof archive, 1, back, 4));
     printf("%d %d %d %d\n", (int)back[0], (int)back[1], (int)back[2], (int)back[3]);
-    print("read", windlassow_read(0, 1, 1, 32, 48, archive, sizeof archive, 0, back, 4));
-    print("read", windlassow_read(0, 1, 1, 32, 48, archive, 0, 0, back, 4));
+    struct windlassow_reply ones_only = windlassow_read(KIND, 1, MODE, PLANES, WIDTH, archive, sizeof archive, 0, back, 4);
+    print("read", ones_only);
+    if (ones_only.answer == WINDLASSOW_NOT_A_CODE) printf("no block has the code of slot 0\n");
+    print("read", windlassow_read(KIND, 1, MODE, PLANES, WIDTH, archive, 0, 0, back, 4));
 }
 
 static void fpc(void) {
     uint64_t f[16], d[16], back[2];
     const uint64_t run[2] = {0x3ff0000000000000, 0x3ff0000000000000};
     const uint8_t bad[3] = {0x66, 0, 0};
-    uint8_t out[17];
+    uint8_t out[WINDLASSOW_STREAM_ROOM(2)];
     memset(f, 0xff, sizeof f);
     memset(d, 0xff, sizeof d);
     struct windlassow_reply wrote = windlassow_fpc_write(f, 16, d, 16, run, 2, out, sizeof out);

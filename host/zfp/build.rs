@@ -9,14 +9,16 @@ const PROBE: &str = "#include <zfp.h>\nint main(void) { return zfp_stream_open(0
 
 fn main() {
     println!("cargo:rerun-if-changed=build.rs");
-    // Where the system's header is missing, cargo takes it for changed, and looks again each time.
-    println!("cargo:rerun-if-changed=/usr/include/zfp.h");
     println!("cargo:rerun-if-env-changed=CC");
     println!("cargo:rustc-check-cfg=cfg(libzfp)");
     if is_installed() {
         println!("cargo:rustc-cfg=libzfp");
         println!("cargo:rustc-link-lib=zfp");
+        println!("cargo:rerun-if-changed=/usr/include/zfp.h");
     } else {
+        // Cargo takes a file that is not there for changed, and so looks again each time. It would not see by its time that the header
+        // has come: a package's files are older than any build.
+        println!("cargo:rerun-if-changed=no-libzfp-yet");
         println!("cargo:warning=libzfp is not installed: apt-get install libzfp-dev");
     }
 }

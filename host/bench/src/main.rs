@@ -1,6 +1,7 @@
 //! The time that the proved library takes, beside the independent implementation and beside libzfp.
 //!
 //! Everything is measured in one run, the programs taking turns, and the ratios are given with their quartiles.
+#![forbid(unsafe_code)]
 
 mod data;
 mod fpc;

@@ -30,12 +30,18 @@ pub struct Difference {
 pub type Outcome = Result<u64, Difference>;
 
 /// Compares one conversion of an integer. e is below 256.
+///
+/// # Errors
+/// The first result that differs from the hardware's.
 pub fn compare_to_pattern(e: u32, input: u32) -> Result<(), Difference> {
     let (given, expected) = (to_pattern(e, input), floats::to_pattern(e, input));
     same(Difference { conversion: "to_pattern", e, input, given, expected })
 }
 
 /// Compares one conversion of a pattern, whose exponent field is below e and below 255.
+///
+/// # Errors
+/// The first result that differs from the hardware's.
 pub fn compare_to_integer(e: u32, input: u32) -> Result<(), Difference> {
     let (given, expected) = (to_integer(e, input), floats::to_integer(e, input));
     same(Difference { conversion: "to_integer", e, input, given, expected })
@@ -47,6 +53,9 @@ fn same(result: Difference) -> Result<(), Difference> {
 
 /// Chosen integers with every e: every length, every number of bits that rounding drops, ties and their
 /// neighbours, carries into the exponent, overflow and subnormals.
+///
+/// # Errors
+/// The first result that differs from the hardware's.
 pub fn chosen_integers(random: &mut Random) -> Outcome {
     let mut count = 0;
     for e in 0..256 {
@@ -60,6 +69,9 @@ pub fn chosen_integers(random: &mut Random) -> Outcome {
 
 /// Chosen patterns with every e and every exponent field below it: every shift, fractions that are cut in every
 /// place, both signs.
+///
+/// # Errors
+/// The first result that differs from the hardware's.
 pub fn chosen_patterns(random: &mut Random) -> Outcome {
     let mut count = 0;
     for e in 1..256 {
@@ -76,6 +88,9 @@ pub fn chosen_patterns(random: &mut Random) -> Outcome {
 }
 
 /// Random ones of both, `count` of each.
+///
+/// # Errors
+/// The first result that differs from the hardware's.
 pub fn random_ones(random: &mut Random, count: u64) -> Outcome {
     for _ in 0..count {
         let e = random.word_below(256);
@@ -91,6 +106,9 @@ pub fn random_ones(random: &mut Random, count: u64) -> Outcome {
 }
 
 /// Every integer with one e, and every finite pattern whose field is below it.
+///
+/// # Errors
+/// The first result that differs from the hardware's.
 pub fn every_input(e: u32) -> Outcome {
     let mut count = 0;
     for input in 0..=u32::MAX {

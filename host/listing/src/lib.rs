@@ -7,7 +7,7 @@ mod process;
 
 pub use pipe::feed;
 pub use process::{peak_kib, wait_for};
-use std::path::{Path, PathBuf};
+use std::path::PathBuf;
 
 /// The program: `target/bin/listing` of the repository, or the one that `WINDLASSOW_LISTING` names.
 pub fn program() -> PathBuf {
@@ -20,10 +20,4 @@ pub fn program() -> PathBuf {
             panic!("this package was built without the listing program, and WINDLASSOW_LISTING names none")
         }
     }
-}
-
-/// The repository's folder.
-pub fn repository() -> PathBuf {
-    let package = Path::new(env!("CARGO_MANIFEST_DIR"));
-    package.ancestors().nth(2).expect("the package is at host/listing").to_path_buf()
 }

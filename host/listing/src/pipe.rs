@@ -20,6 +20,9 @@ unsafe extern "C" {
 
 /// Writes the pieces and closes the pipe. Each is written when the pipe is empty, so that one read of the child
 /// can give it no more than one piece. Ends early if the child reads no more.
+///
+/// # Errors
+/// The pipe cannot be written or asked.
 pub fn feed<'a>(mut pipe: ChildStdin, pieces: impl Iterator<Item = &'a [u8]>) -> io::Result<()> {
     for piece in pieces {
         match pipe.write_all(piece) {

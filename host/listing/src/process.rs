@@ -12,7 +12,10 @@ pub fn peak_kib(process: u32) -> Option<u64> {
     line.trim().strip_suffix("kB")?.trim().parse().ok()
 }
 
-/// Waits for the end of a child. One that has not ended in that time is killed, and the result is an error.
+/// Waits for the end of a child. One that has not ended in that time is killed.
+///
+/// # Errors
+/// The child has not ended in that time, or cannot be waited for.
 pub fn wait_for(child: &mut Child, time: Duration) -> io::Result<ExitStatus> {
     let began = Instant::now();
     while began.elapsed() < time {

@@ -6,6 +6,7 @@
 //!
 //! The calls are [`store`], [`read`], [`slot_count`], [`bit_count`], [`fpc_write`], [`fpc_read`] and, for the
 //! listing program, [`listing()`]. The modules hold the pieces.
+#![forbid(unsafe_code)]
 
 pub mod bits;
 pub mod code;

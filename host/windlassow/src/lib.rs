@@ -3,7 +3,7 @@
 //! This is the Rust interface to a static library that is written and proved in Rattle. An archive is a byte
 //! buffer that the caller lends; it is cut into slots of W bits, and slot k starts at bit kW. A block is 4 or 16
 //! words of 32 bits, see [`Dimension`]. Words are integers (`value as u32`) or float patterns
-//! ([`f32::to_bits`]).
+//! ([`f32::to_bits`]); [`store_block`], [`read_block`] and [`slots`] take and give `i32` and `f32`.
 //!
 //! ```
 //! use windlassow::{Dimension, Params, Refusal, read, slot_count, store};
@@ -27,17 +27,41 @@
 //! ```
 //!
 //! A refused call changes no buffer, with one exception: [`fpc_write`] and [`fpc_read`] leave both tables zero
-//! with [`Refusal::RoomTooSmall`] and [`Refusal::NotAStream`].
+//! with [`Refusal::OutputTooLong`] and [`Refusal::NotAStream`].
+//!
+//! **Damage is not detected.** [`Refusal::NotACode`] and [`Refusal::NotAStream`] say that no block or run has these
+//! bits. A damaged slot or stream is often another block's or run's own code, and is then read without a sign. Who
+//! can lose bytes keeps a checksum beside them.
 
+mod blocks;
 mod ffi;
 mod params;
 mod refusal;
 
+pub use blocks::{Slots, Value, read_block, slots, store_block};
 pub use params::{Dimension, Kind, Mode, Params};
 pub use refusal::Refusal;
 use refusal::outcome;
 
+/// The most bytes of an archive; a longer one is refused with [`Refusal::ArchiveTooLong`].
+pub const MAX_ARCHIVE_LEN: usize = 65_536;
+
+/// The most doubles of a run; more are refused with [`Refusal::InputTooLong`].
+pub const MAX_RUN_LEN: usize = 4_096;
+
+/// The most bytes that [`fpc_read`] looks at; more are refused with [`Refusal::InputTooLong`]. No run has a stream of
+/// more than 34,816 bytes.
+pub const MAX_STREAM_LEN: usize = 65_536;
+
+/// The README's example is compiled and run.
+#[cfg(doctest)]
+#[doc = include_str!("../../../README.md")]
+struct Readme;
+
 /// Stores a block in a slot and gives the bits of its code. Only the bits of that slot change.
+///
+/// # Errors
+/// Refusals 1 to 10. [`Refusal::CodeTooLong`] has the bits that an exact block needs. A refused store changes nothing.
 ///
 /// ```
 /// use windlassow::{Dimension, Params, Refusal, store};
@@ -50,7 +74,7 @@ use refusal::outcome;
 /// // A block that needs 136 bits does not fit into 48.
 /// let block = [0xaaaaaaab, 0x55555556, 0xaaaaaaac, 0x55555558];
 /// let refusal = store(params, &mut archive, 1, &block).unwrap_err();
-/// assert_eq!(refusal, Refusal::TooLongForSlot { bits: 136 });
+/// assert_eq!(refusal, Refusal::CodeTooLong { bits: 136 });
 /// assert_eq!(refusal.number(), 10);
 /// ```
 pub fn store(params: Params, archive: &mut [u8], slot: usize, words: &[u32]) -> Result<usize, Refusal> {
@@ -61,20 +85,35 @@ pub fn store(params: Params, archive: &mut [u8], slot: usize, words: &[u32]) -> 
 ///
 /// In exact mode a slot that no block could have produced is refused. In lossy mode every slot can be read.
 ///
+/// A slot that was damaged is refused only if it has become no block's code. Often it is another block's own code
+/// and is read as that block without a sign; a slot of zeros reads as zeros. Who can lose bytes keeps a checksum of
+/// the archive beside it.
+///
+/// # Errors
+/// Refusals 1 to 8, and in exact mode [`Refusal::NotACode`], 11. A refused read leaves `words` as they were.
+///
 /// ```
 /// use windlassow::{Dimension, Params, Refusal, read};
 ///
-/// let mut words = [0; 4];
+/// let mut words = [9; 4];
 /// let exact = Params::exact_integers(Dimension::One).with_width(48);
 /// assert_eq!(read(exact, &[0xff; 6], 0, &mut words), Err(Refusal::NotACode));
+/// assert_eq!(words, [9; 4]);
 /// let lossy = Params::lossy_integers(Dimension::One, 32, 48);
 /// assert_eq!(read(lossy, &[0xff; 6], 0, &mut words), Ok(4));
+///
+/// // A lost slot reads as zeros.
+/// assert_eq!(read(exact, &[0; 6], 0, &mut words), Ok(4));
+/// assert_eq!(words, [0; 4]);
 /// ```
 pub fn read(params: Params, archive: &[u8], slot: usize, words: &mut [u32]) -> Result<usize, Refusal> {
     outcome(ffi::read(params, archive, slot, words))
 }
 
 /// The number of whole slots in an archive.
+///
+/// # Errors
+/// Refusals 1 to 6.
 ///
 /// ```
 /// use windlassow::{Dimension, Params, slot_count};
@@ -87,6 +126,9 @@ pub fn slot_count(params: Params, archive: &[u8]) -> Result<usize, Refusal> {
 }
 
 /// The bits of a block's code: what [`store`] would give, or what it would need in exact mode.
+///
+/// # Errors
+/// Refusals 1 to 5, 8 and 9.
 ///
 /// ```
 /// use windlassow::{Dimension, Params, bit_count};
@@ -103,6 +145,10 @@ pub fn bit_count(params: Params, words: &[u32]) -> Result<usize, Refusal> {
 ///
 /// `f` and `d` are the two tables, of one length that is a power of two from 16 to 1,024. What they hold at first
 /// does not matter. The stream of n doubles is never longer than 17 bytes for each begun pair.
+///
+/// # Errors
+/// Refusals 20 to 22. [`Refusal::OutputTooLong`] has the bytes needed; it leaves `out` as it was and both tables zero.
+/// The others change nothing.
 ///
 /// ```
 /// use windlassow::{Refusal, fpc_write};
@@ -122,6 +168,13 @@ pub fn fpc_write(f: &mut [u64], d: &mut [u64], doubles: &[u64], out: &mut [u8]) 
 
 /// Reads an FPC stream into `doubles` and gives their number. The tables must have the length that they had when
 /// the stream was written.
+///
+/// A damaged stream, or one read with tables of another length, may be another run's own stream and is then read as
+/// that run without a sign.
+///
+/// # Errors
+/// Refusals 20 to 23. [`Refusal::OutputTooLong`] has the doubles needed; it and [`Refusal::NotAStream`] leave `doubles`
+/// as they were and both tables zero. The others change nothing.
 ///
 /// ```
 /// use windlassow::{Refusal, fpc_read};

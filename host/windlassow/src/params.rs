@@ -1,5 +1,7 @@
 //! The parameters of a slot call.
 
+use crate::{MAX_ARCHIVE_LEN, Refusal};
+
 /// What the words of a block are.
 #[derive(Clone, Copy, Debug, PartialEq, Eq, Hash)]
 pub enum Kind {
@@ -34,21 +36,34 @@ impl Kind {
             Kind::Floats => 1,
         }
     }
+
+    const fn from_number(number: u32) -> Result<Kind, Refusal> {
+        match number {
+            0 => Ok(Kind::Integers),
+            1 => Ok(Kind::Floats),
+            _ => Err(Refusal::InvalidKind),
+        }
+    }
 }
 
 impl Dimension {
-    /// The words of a block: 4 or 16.
+    /// N, the words of a block: 4 or 16.
     pub const fn block_len(self) -> usize {
-        match self {
-            Dimension::One => 4,
-            Dimension::Two => 16,
-        }
+        4usize.pow(self.number())
     }
 
     const fn number(self) -> u32 {
         match self {
             Dimension::One => 1,
             Dimension::Two => 2,
+        }
+    }
+
+    const fn from_number(number: u32) -> Result<Dimension, Refusal> {
+        match number {
+            1 => Ok(Dimension::One),
+            2 => Ok(Dimension::Two),
+            _ => Err(Refusal::InvalidDimension),
         }
     }
 }
@@ -60,6 +75,14 @@ impl Mode {
             Mode::Exact => 1,
         }
     }
+
+    const fn from_number(number: u32) -> Result<Mode, Refusal> {
+        match number {
+            0 => Ok(Mode::Lossy),
+            1 => Ok(Mode::Exact),
+            _ => Err(Refusal::InvalidMode),
+        }
+    }
 }
 
 /// The parameters with which an archive is written. It must be read with the same ones.
@@ -67,13 +90,19 @@ impl Mode {
 /// Numbers out of range are allowed here and refused by the calls.
 ///
 /// ```
-/// use windlassow::{Dimension, Params};
+/// use windlassow::{Dimension, Kind, Mode, Params, Refusal};
 ///
 /// let exact = Params::exact_floats(Dimension::One);
-/// assert_eq!(exact.width(), 146);
-/// let narrow = exact.with_width(64);
-/// assert_eq!(narrow.width(), 64);
-/// assert_eq!(narrow, Params::from_numbers(1, 1, 1, 32, 64));
+/// assert_eq!(exact.kind(), Ok(Kind::Floats));
+/// assert_eq!(exact.mode(), Ok(Mode::Exact));
+/// assert_eq!(exact.block_len(), Ok(4));
+/// assert_eq!(exact.slot_bits(), Ok(146));
+/// assert_eq!(exact.archive_len(1000), Ok(18_250));
+///
+/// let narrow = exact.with_width(0);
+/// assert_eq!((narrow.width(), narrow.slot_bits()), (0, Ok(32)));
+/// assert_eq!(narrow, Params::from_numbers(1, 1, 1, 32, 0));
+/// assert_eq!(Params::from_numbers(2, 1, 1, 32, 0).kind(), Err(Refusal::InvalidKind));
 /// ```
 #[derive(Clone, Copy, Debug, PartialEq, Eq, Hash)]
 pub struct Params {
@@ -132,13 +161,74 @@ impl Params {
         Params { planes, ..self }
     }
 
-    /// The width as it was given.
-    pub const fn width(self) -> u32 {
-        self.width
+    /// The kind of the words.
+    ///
+    /// # Errors
+    /// [`Refusal::InvalidKind`] if the number given is not 0 or 1.
+    pub const fn kind(self) -> Result<Kind, Refusal> {
+        Kind::from_number(self.kind)
+    }
+
+    /// The dimension of a block.
+    ///
+    /// # Errors
+    /// [`Refusal::InvalidDimension`] if the number given is not 1 or 2.
+    pub const fn dimension(self) -> Result<Dimension, Refusal> {
+        Dimension::from_number(self.dimension)
+    }
+
+    /// The mode.
+    ///
+    /// # Errors
+    /// [`Refusal::InvalidMode`] if the number given is not 0 or 1.
+    pub const fn mode(self) -> Result<Mode, Refusal> {
+        Mode::from_number(self.mode)
     }
 
     /// The planes as they were given.
     pub const fn planes(self) -> u32 {
         self.planes
+    }
+
+    /// The width as it was given, 0 too. [`Params::slot_bits`] gives the bits that it stands for.
+    pub const fn width(self) -> u32 {
+        self.width
+    }
+
+    /// N, the words of a block.
+    ///
+    /// # Errors
+    /// [`Refusal::InvalidDimension`] if the dimension is not 1 or 2.
+    pub const fn block_len(self) -> Result<usize, Refusal> {
+        match self.dimension() {
+            Ok(dimension) => Ok(dimension.block_len()),
+            Err(refusal) => Err(refusal),
+        }
+    }
+
+    /// W, the bits of a slot: the width given, or 8N where that is 0.
+    ///
+    /// # Errors
+    /// [`Refusal::InvalidDimension`] if the dimension is not 1 or 2, [`Refusal::InvalidWidth`] if the width is neither
+    /// 0 nor from 16 to 1,024.
+    pub const fn slot_bits(self) -> Result<usize, Refusal> {
+        match (self.block_len(), self.width) {
+            (Err(refusal), _) => Err(refusal),
+            (Ok(n), 0) => Ok(8 * n),
+            (Ok(_), 16..=1024) => Ok(self.width as usize),
+            _ => Err(Refusal::InvalidWidth),
+        }
+    }
+
+    /// The bytes of the shortest archive with so many slots.
+    ///
+    /// # Errors
+    /// Those of [`Params::slot_bits`]; [`Refusal::ArchiveTooLong`] if it would be longer than [`MAX_ARCHIVE_LEN`].
+    pub const fn archive_len(self, slots: usize) -> Result<usize, Refusal> {
+        match self.slot_bits() {
+            Err(refusal) => Err(refusal),
+            Ok(bits) if slots <= 8 * MAX_ARCHIVE_LEN / bits => Ok((slots * bits).div_ceil(8)),
+            Ok(_) => Err(Refusal::ArchiveTooLong),
+        }
     }
 }

@@ -4,48 +4,50 @@ use crate::ffi::Reply;
 use std::error::Error;
 use std::fmt::{self, Display, Formatter};
 
-/// Why a call did nothing.
+/// Why a call was refused. It changed no buffer, but that [`Refusal::OutputTooLong`] and [`Refusal::NotAStream`] leave
+/// both FPC tables zero.
 ///
 /// Each has the answer number of the project's rules, which [`Refusal::number`] gives. If several apply, the
 /// one of the lowest number is given, except that 23 comes before 22.
 #[derive(Clone, Copy, Debug, PartialEq, Eq, Hash)]
 #[non_exhaustive]
 pub enum Refusal {
-    /// 1: the kind is not 0 or 1.
-    Kind,
+    /// 1: the kind is not 0 or 1, or not the one that the call is for.
+    InvalidKind,
     /// 2: the dimension is not 1 or 2.
-    Dimension,
+    InvalidDimension,
     /// 3: the mode is not 0 or 1.
-    Mode,
+    InvalidMode,
     /// 4: the number of planes is not from 1 to 32.
-    Planes,
+    InvalidPlanes,
     /// 5: the width is neither 0 nor from 16 to 1,024.
-    Width,
+    InvalidWidth,
     /// 6: the archive is longer than 65,536 bytes.
     ArchiveTooLong,
     /// 7: the archive has no slot of that number.
     NoSuchSlot,
     /// 8: the buffer of words has not the length of a block.
-    WordCount,
+    InvalidBlockLen,
     /// 9: an infinity or a NaN among floats that are to be stored lossy.
     NotFinite,
     /// 10: the exact code of the block is longer than the slot.
-    TooLongForSlot {
+    CodeTooLong {
         /// The bits that the code needs.
         bits: usize,
     },
     /// 11: the slot holds no exact code.
     NotACode,
     /// 20: the FPC tables are not of one length that is a power of two from 16 to 1,024.
-    Tables,
+    InvalidTables,
     /// 21: more than 4,096 doubles to write, or more than 65,536 bytes to read.
     InputTooLong,
-    /// 22: the output does not fit the room lent.
-    RoomTooSmall {
+    /// 22: the output is longer than the room lent. Both tables are zero.
+    OutputTooLong {
         /// The bytes, or when reading the doubles, that are needed.
         needed: usize,
     },
-    /// 23: the bytes are not the stream, for tables of this size, of any run of at most 4,096 doubles.
+    /// 23: the bytes are not the stream, for tables of this size, of any run of at most 4,096 doubles. Both tables
+    /// are zero.
     NotAStream,
 }
 
@@ -57,20 +59,20 @@ impl Refusal {
     /// ```
     pub const fn number(self) -> u32 {
         match self {
-            Refusal::Kind => 1,
-            Refusal::Dimension => 2,
-            Refusal::Mode => 3,
-            Refusal::Planes => 4,
-            Refusal::Width => 5,
+            Refusal::InvalidKind => 1,
+            Refusal::InvalidDimension => 2,
+            Refusal::InvalidMode => 3,
+            Refusal::InvalidPlanes => 4,
+            Refusal::InvalidWidth => 5,
             Refusal::ArchiveTooLong => 6,
             Refusal::NoSuchSlot => 7,
-            Refusal::WordCount => 8,
+            Refusal::InvalidBlockLen => 8,
             Refusal::NotFinite => 9,
-            Refusal::TooLongForSlot { .. } => 10,
+            Refusal::CodeTooLong { .. } => 10,
             Refusal::NotACode => 11,
-            Refusal::Tables => 20,
+            Refusal::InvalidTables => 20,
             Refusal::InputTooLong => 21,
-            Refusal::RoomTooSmall { .. } => 22,
+            Refusal::OutputTooLong { .. } => 22,
             Refusal::NotAStream => 23,
         }
     }
@@ -79,8 +81,8 @@ impl Refusal {
     /// stream or the doubles of the run.
     pub const fn needed(self) -> Option<usize> {
         match self {
-            Refusal::TooLongForSlot { bits } => Some(bits),
-            Refusal::RoomTooSmall { needed } => Some(needed),
+            Refusal::CodeTooLong { bits } => Some(bits),
+            Refusal::OutputTooLong { needed } => Some(needed),
             _ => None,
         }
     }
@@ -89,22 +91,50 @@ impl Refusal {
     fn from_reply(reply: Reply) -> Refusal {
         let count = reply.count as usize;
         match reply.answer {
-            1 => Refusal::Kind,
-            2 => Refusal::Dimension,
-            3 => Refusal::Mode,
-            4 => Refusal::Planes,
-            5 => Refusal::Width,
+            1 => Refusal::InvalidKind,
+            2 => Refusal::InvalidDimension,
+            3 => Refusal::InvalidMode,
+            4 => Refusal::InvalidPlanes,
+            5 => Refusal::InvalidWidth,
             6 => Refusal::ArchiveTooLong,
             7 => Refusal::NoSuchSlot,
-            8 => Refusal::WordCount,
+            8 => Refusal::InvalidBlockLen,
             9 => Refusal::NotFinite,
-            10 => Refusal::TooLongForSlot { bits: count },
+            10 => Refusal::CodeTooLong { bits: count },
             11 => Refusal::NotACode,
-            20 => Refusal::Tables,
+            20 => Refusal::InvalidTables,
             21 => Refusal::InputTooLong,
-            22 => Refusal::RoomTooSmall { needed: count },
+            22 => Refusal::OutputTooLong { needed: count },
             23 => Refusal::NotAStream,
             other => panic!("the static library gave the answer {other}, which this version does not know"),
+        }
+    }
+
+    /// What is wrong, without the number that a text may need.
+    const fn text(self) -> &'static str {
+        match self {
+            Refusal::InvalidKind => "the kind is not 0 or 1, or not the one that the call is for",
+            Refusal::InvalidDimension => "the dimension is not 1 or 2",
+            Refusal::InvalidMode => "the mode is not 0 or 1",
+            Refusal::InvalidPlanes => "the number of planes is not from 1 to 32",
+            Refusal::InvalidWidth => "the width is neither 0 nor from 16 to 1,024",
+            Refusal::ArchiveTooLong => "the archive is longer than 65,536 bytes",
+            Refusal::NoSuchSlot => "the archive has no slot of that number",
+            Refusal::InvalidBlockLen => "the buffer of words has not the length of a block",
+            Refusal::NotFinite => "a float to be stored lossy is infinite or not a number",
+            Refusal::CodeTooLong { .. } => "the code is longer than the slot",
+            Refusal::NotACode => "the slot holds no exact code",
+            Refusal::InvalidTables => {
+                "the tables are not of one length that is a power of two from 16 to 1,024"
+            }
+            Refusal::InputTooLong => "the input is above 4,096 doubles or 65,536 bytes",
+            Refusal::OutputTooLong { .. } => {
+                "the output is longer than the room lent, and both tables are now zero"
+            }
+            Refusal::NotAStream => {
+                "the bytes are not the FPC stream, for tables of this length, of any run of at most 4,096 doubles, and \
+                 both tables are now zero"
+            }
         }
     }
 }
@@ -121,26 +151,13 @@ pub(crate) fn outcome(reply: Reply) -> Result<usize, Refusal> {
 
 impl Display for Refusal {
     fn fmt(&self, out: &mut Formatter<'_>) -> fmt::Result {
+        out.write_str(self.text())?;
         match self {
-            Refusal::Kind => write!(out, "the kind is not 0 or 1"),
-            Refusal::Dimension => write!(out, "the dimension is not 1 or 2"),
-            Refusal::Mode => write!(out, "the mode is not 0 or 1"),
-            Refusal::Planes => write!(out, "the number of planes is not from 1 to 32"),
-            Refusal::Width => write!(out, "the width is neither 0 nor from 16 to 1,024"),
-            Refusal::ArchiveTooLong => write!(out, "the archive is longer than 65,536 bytes"),
-            Refusal::NoSuchSlot => write!(out, "the archive has no slot of that number"),
-            Refusal::WordCount => write!(out, "the buffer of words has not the length of a block"),
-            Refusal::NotFinite => write!(out, "a float to be stored lossy is infinite or not a number"),
-            Refusal::TooLongForSlot { bits } => {
-                write!(out, "the code needs {bits} bits, more than the slot has")
+            Refusal::CodeTooLong { bits } => write!(out, ": it needs {bits} bits"),
+            Refusal::OutputTooLong { needed } => {
+                write!(out, ": it needs {needed} bytes to write, or doubles to read")
             }
-            Refusal::NotACode => write!(out, "the slot holds no exact code"),
-            Refusal::Tables => {
-                write!(out, "the tables are not of one length that is a power of two from 16 to 1,024")
-            }
-            Refusal::InputTooLong => write!(out, "the input is above 4,096 doubles or 65,536 bytes"),
-            Refusal::RoomTooSmall { needed } => write!(out, "the output needs room for {needed}"),
-            Refusal::NotAStream => write!(out, "the bytes are not an FPC stream for tables of this size"),
+            _ => Ok(()),
         }
     }
 }

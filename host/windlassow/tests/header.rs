@@ -1,7 +1,8 @@
 //! The C header: a program in C, compiled against it and linked with the static library, as C and as C++.
 
-use std::path::{Path, PathBuf};
+use std::path::Path;
 use std::process::Command;
+use testing::repository;
 
 const EXPECTED: &str = "\
 slot_count: answer 0, count 2
@@ -12,6 +13,7 @@ ffffffffffff1f0000003000ff
 read: answer 0, count 4
 1 1 1 1
 read: answer 11, count 0
+no block has the code of slot 0
 read: answer 7, count 0
 fpc_write: answer 0, count 9
 07000000000000f03f
@@ -21,10 +23,6 @@ fpc_read: answer 23, count 0
 fpc_write: answer 22, count 9
 fpc_write: answer 20, count 0
 ";
-
-fn repository() -> PathBuf {
-    Path::new(env!("CARGO_MANIFEST_DIR")).ancestors().nth(2).unwrap().to_path_buf()
-}
 
 /// Compiles the example in a language, links and runs it, and compares what it prints.
 fn run_as(language: &str, standard: &str) {
@@ -55,4 +53,19 @@ fn the_example_in_c() {
 #[test]
 fn the_example_in_cpp() {
     run_as("c++", "-std=c++11");
+}
+
+/// The named constants have document 01's numbers: a file of assertions compiles. With one number changed it does not.
+#[test]
+fn the_constants() {
+    let source = repository().join("host/c/constants.c");
+    let compiles = |name: &str, more: &[&str]| {
+        let object = Path::new(env!("CARGO_TARGET_TMPDIR")).join(name);
+        let mut cc = Command::new("cc");
+        cc.args(["-std=c99", "-Wall", "-Wextra", "-pedantic", "-c"]).args(more).arg(&source).arg("-I");
+        let output = cc.arg(repository().join("include")).arg("-o").arg(object).output();
+        output.expect("the C compiler 'cc' is on the PATH").status.success()
+    };
+    assert!(compiles("constants.o", &["-Werror"]));
+    assert!(!compiles("constants-wrong.o", &["-DWRONG=1"]));
 }

@@ -57,7 +57,10 @@ pub struct Libzfp {
 }
 
 impl Libzfp {
-    /// The library, or the message that it is missing.
+    /// The library.
+    ///
+    /// # Errors
+    /// The message that it is missing.
     #[cfg(libzfp)]
     pub fn find() -> Result<Libzfp, &'static str> {
         let (version, word_bits) = crate::ffi::version();

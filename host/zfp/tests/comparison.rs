@@ -1,6 +1,6 @@
 //! The comparison with libzfp, for some seconds; for minutes with `WINDLASSOW_LONG=1`.
 
-use random::Random;
+use random::{Random, is_long};
 use reference::{Params, bits, planes};
 use zfp::bits::{bits_of, padded};
 use zfp::classes::Class;
@@ -16,10 +16,6 @@ const REPORT: &str = include_str!("../../../docs/DIFFERENCES.md");
 
 fn lib() -> Libzfp {
     Libzfp::find().unwrap_or_else(|message| panic!("{message}"))
-}
-
-fn is_long() -> bool {
-    std::env::var("WINDLASSOW_LONG").is_ok_and(|value| value == "1")
 }
 
 /// Fails with the first of them, if there are any.

@@ -3,28 +3,20 @@
 //! Document 004 has an example of group testing. Document 002 has the largest sizes of blocks (its question 28), the
 //! precisions that lose nothing (21), a bound on the error (20), and how the modes stand for one another.
 
-use random::{Random, is_long};
+use random::{Random, rounds};
 use reference::floats::{common_exponent, to_integer};
 use reference::transform::{from_coefficients, lift, sums, to_coefficients, unlift};
 use reference::words::{from_negabinary, to_negabinary};
 use reference::{Params, bits};
+use testing::{EXACT, FLOATS, INTEGERS, LOSSY};
 use zfp::bits::padded;
 use zfp::compare::Comparison;
 use zfp::libzfp::{Libzfp, Setting, checked, shape};
 use zfp::make::any_block;
 use zfp::tally::Origin;
 
-const INTEGERS: u32 = 0;
-const FLOATS: u32 = 1;
-const LOSSY: u32 = 0;
-const EXACT: u32 = 1;
-
 fn comparison() -> Comparison {
     Comparison::new(Libzfp::find().unwrap_or_else(|message| panic!("{message}")))
-}
-
-fn rounds(count: usize) -> usize {
-    if is_long() { 40 * count } else { count }
 }
 
 /// Digits as the paper prints them, the highest first, as bits, the lowest first.

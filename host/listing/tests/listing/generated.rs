@@ -4,32 +4,22 @@ use crate::make::{First, WIDTHS, any_line, good_line, input, line_of};
 use crate::run::compare;
 use random::{Random, is_long};
 use std::ops::Range;
+use testing::Answers;
 
-/// How often each answer was expected.
-struct Answers([usize; 32]);
-
-impl Answers {
-    fn count(&mut self, input: &[u8]) {
-        for line in reference::listing(input).split(|&byte| byte == b'\n').filter(|line| !line.is_empty()) {
-            let number = std::str::from_utf8(&line[..2]).unwrap();
-            self.0[usize::from_str_radix(number, 16).unwrap()] += 1;
-        }
-    }
-
-    /// Fails if one of these answers was never expected: then the test did not reach it.
-    fn must_include(&self, answers: impl IntoIterator<Item = usize>) {
-        for answer in answers {
-            assert!(self.0[answer] > 0, "no input of this test has the answer {answer}");
-        }
+/// Counts the answers that are expected for an input.
+fn count(answers: &mut Answers, input: &[u8]) {
+    for line in reference::listing(input).split(|&byte| byte == b'\n').filter(|line| !line.is_empty()) {
+        let number = std::str::from_utf8(&line[..2]).unwrap();
+        answers.count(u32::from_str_radix(number, 16).unwrap());
     }
 }
 
 fn generated(seeds: Range<u64>, most: usize) -> Answers {
-    let mut answers = Answers([0; 32]);
+    let mut answers = Answers::none();
     for seed in seeds {
         let input = input(&mut Random::new(seed), most);
         compare(&input);
-        answers.count(&input);
+        count(&mut answers, &input);
     }
     answers
 }
@@ -38,21 +28,21 @@ fn generated(seeds: Range<u64>, most: usize) -> Answers {
 fn short_inputs_of_all_sorts() {
     let count = if is_long() { 60_000 } else { 2_500 };
     let answers = generated(1..1 + count, 8);
-    answers.must_include([0, 1, 2, 3, 4, 5, 9, 10, 12]);
+    answers.must_include(&[0, 1, 2, 3, 4, 5, 9, 10, 12]);
 }
 
 #[test]
 fn inputs_of_all_sorts() {
     let count = if is_long() { 20_000 } else { 800 };
     let answers = generated(1_000_000..1_000_000 + count, 100);
-    answers.must_include([0, 1, 2, 3, 4, 5, 9, 10, 12]);
+    answers.must_include(&[0, 1, 2, 3, 4, 5, 9, 10, 12]);
 }
 
 /// Every kind, mode and dimension at every width of the table.
 #[test]
 fn every_kind_mode_dimension_and_width() {
     let mut random = Random::new(2);
-    let mut answers = Answers([0; 32]);
+    let mut answers = Answers::none();
     let rounds = if is_long() { 60 } else { 1 };
     for case in 0..8 * WIDTHS.len() * rounds {
         let first = First {
@@ -66,9 +56,9 @@ fn every_kind_mode_dimension_and_width() {
         (0..30).for_each(|_| input.extend(good_line(&mut random, first)));
         (0..10).for_each(|_| input.extend(any_line(&mut random, first)));
         compare(&input);
-        answers.count(&input);
+        count(&mut answers, &input);
     }
-    answers.must_include([0, 9, 10, 12]);
+    answers.must_include(&[0, 9, 10, 12]);
 }
 
 /// Every byte at every place of a block's line, its newline too. All are lines of one input.

@@ -2,9 +2,10 @@
 
 use crate::run::through_pipe;
 use std::fs;
+use testing::repository;
 
 fn sample(name: &str) -> (String, String) {
-    let folder = listing::repository().join("samples");
+    let folder = repository().join("samples");
     let text = |ending| fs::read_to_string(folder.join(format!("{name}.{ending}"))).unwrap();
     (text("txt"), text("out"))
 }
@@ -38,4 +39,20 @@ fn the_floats_of_the_papers_table() {
     // 1 1 are the lowest two bits of the first byte.
     assert_eq!(lines[2].0, "80000000".repeat(4));
     assert!(["3", "7", "b", "f"].contains(&&lines[2].1[7..8]));
+}
+
+/// The picture of README.md: fields of the input and of the output stand in one column, what they mean in another.
+#[test]
+fn the_picture_in_the_readme() {
+    let page = fs::read_to_string(repository().join("README.md")).unwrap();
+    let (_, after) = page.split_once("\n## List a file of blocks\n").expect("the README has the section");
+    let (_, block) = after.split_once("\n```text\n").expect("a picture follows");
+    let (input, output) = block.split_once("\n\nout").expect("the picture has both parts");
+    let lines = |part: &str| -> String {
+        let fields = |line: &str| line.get(6..44).unwrap_or(&line[6..]).replace(' ', "") + "\n";
+        part.lines().take_while(|line| *line != "```").map(fields).collect()
+    };
+    let expected = lines(&format!("out{output}"));
+    assert_eq!(expected, "0000271f0000003000\n0a0088\n0c0000\n");
+    assert_eq!(String::from_utf8(through_pipe(lines(input).as_bytes()).stdout).unwrap(), expected);
 }

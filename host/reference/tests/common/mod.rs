@@ -3,11 +3,7 @@
 
 pub use random::Random;
 use reference::{Params, Reply};
-
-pub const EXACT: u32 = 1;
-pub const LOSSY: u32 = 0;
-pub const INTEGERS: u32 = 0;
-pub const FLOATS: u32 = 1;
+pub use testing::{EXACT, FLOATS, INTEGERS, LOSSY, bits};
 
 pub fn params(kind: u32, dimension: u32, mode: u32, planes: u32, width: u32) -> Params {
     Params { kind, dimension, mode, planes, width }
@@ -19,11 +15,6 @@ pub fn done(count: u32) -> Reply {
 
 pub fn refused(answer: u32) -> Reply {
     Reply { answer, count: 0 }
-}
-
-/// The bits of a string of 0s and 1s, spaces left out.
-pub fn bits(text: &str) -> Vec<bool> {
-    text.chars().filter(|c| *c != ' ').map(|c| c == '1').collect()
 }
 
 /// Stores in a buffer of zeros that has just room for the slot, and gives the slot's bits too.

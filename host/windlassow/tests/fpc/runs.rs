@@ -64,8 +64,8 @@ fn tables_of_every_length() {
     let stream = [0x77, 0x76, 0x00];
     let mut answers = Answers::none();
     for size in (0..=1100).chain([2047, 2048, 4096]) {
-        answers.count(compare_write(&mut random, (size, size), &[0, 0, 0], 3));
-        answers.count(compare_read(&mut random, (size, size), &stream, 3).0);
+        answers.count(compare_write(&mut random, (size, size), &[0, 0, 0], 3).answer);
+        answers.count(compare_read(&mut random, (size, size), &stream, 3).0.answer);
     }
     for _ in 0..rounds(3000) {
         let mut size = || {
@@ -73,8 +73,8 @@ fn tables_of_every_length() {
             random.pick(&[0, 8, 16, 32, 64, 128, 256, 512, 1024, 2048, any])
         };
         let sizes = (size(), size());
-        answers.count(compare_write(&mut random, sizes, &[0, 0, 0], 3));
-        answers.count(compare_read(&mut random, sizes, &stream, 3).0);
+        answers.count(compare_write(&mut random, sizes, &[0, 0, 0], 3).answer);
+        answers.count(compare_read(&mut random, sizes, &stream, 3).0.answer);
     }
     answers.must_include(&[0, 20]);
 }
@@ -88,13 +88,13 @@ fn refusals_in_their_order() {
         let sizes = (random.pick(&[8, 16, 16, 16]), random.pick(&[16, 16, 16, 32]));
         let len = random.pick(&[0, 1, 2, 4095, 4096, 4097, 5000]);
         let room = random.pick(&[0, 1, 8, 3000, 40_000]);
-        answers.count(compare_write(&mut random, sizes, &vec![1 << 63; len], room));
+        answers.count(compare_write(&mut random, sizes, &vec![1 << 63; len], room).answer);
         let mut bytes = stream[..random.pick(&[0, 1, stream.len() - 1, stream.len()])].to_vec();
         if random.once_in(3) {
             bytes.resize(random.pick(&[34_816, 34_817, 65_535, 65_536, 65_537, 70_000]), 0x77);
         }
         let room = random.pick(&[0, 1, 4095, 4096, 4097]);
-        answers.count(compare_read(&mut random, sizes, &bytes, room).0);
+        answers.count(compare_read(&mut random, sizes, &bytes, room).0.answer);
     }
     answers.must_include(&[0, 20, 21, 22, 23]);
 }
@@ -109,10 +109,10 @@ fn every_room() {
         let run = run(&mut random, maker, size, len);
         let (stream, _) = stream_of(size, &run);
         for room in 0..=stream.len() + 9 {
-            answers.count(compare_write(&mut random, (size, size), &run, room));
+            answers.count(compare_write(&mut random, (size, size), &run, room).answer);
         }
         for room in 0..=len + 5 {
-            answers.count(compare_read(&mut random, (size, size), &stream, room).0);
+            answers.count(compare_read(&mut random, (size, size), &stream, room).0.answer);
         }
     }
     answers.must_include(&[0, 22]);

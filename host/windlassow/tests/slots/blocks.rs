@@ -17,7 +17,7 @@ fn every_width_kind_dimension_and_mode() {
                 let archive = archive_for(&mut random, &p, slots);
                 let maker = random.below(MAKERS);
                 let words = block(&mut random, maker, block_len(&p));
-                answers.count(compare_all(&p, &archive, random.below(slots), &words));
+                answers.count(compare_all(&p, &archive, random.below(slots), &words).answer);
             }
         }
     }

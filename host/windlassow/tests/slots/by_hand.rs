@@ -1,13 +1,9 @@
 //! Outcomes worked out by hand from document 01, on the library alone.
 
+use testing::bits;
 use windlassow::{Params, read, slot_count, store};
 
 const ONE: u32 = 0x3F80_0000;
-
-/// The bits of a text of 0s and 1s, spaces left out.
-fn bits(text: &str) -> Vec<u8> {
-    text.bytes().filter(|&digit| digit != b' ').map(|digit| digit - b'0').collect()
-}
 
 /// Stores in slot 0 of an archive of ones. The count is the length of this code, and the slot is the code and then
 /// zeros. Gives the archive.
@@ -16,8 +12,8 @@ fn stores(p: Params, words: &[u32], code: &str) -> Vec<u8> {
     let mut archive = vec![0xFF; width.div_ceil(8)];
     let mut expected = bits(code);
     assert_eq!(store(p, &mut archive, 0, words), Ok(expected.len()), "{words:x?}");
-    expected.resize(width, 0);
-    let slot: Vec<u8> = (0..width).map(|t| archive[t / 8] >> (t % 8) & 1).collect();
+    expected.resize(width, false);
+    let slot: Vec<bool> = (0..width).map(|t| archive[t / 8] >> (t % 8) & 1 == 1).collect();
     assert_eq!(slot, expected, "{words:x?}");
     archive
 }

@@ -3,10 +3,6 @@
 use crate::common::*;
 use reference::{Params, Reply, bits};
 
-pub const INTEGERS: u32 = 0;
-pub const FLOATS: u32 = 1;
-pub const LOSSY: u32 = 0;
-pub const EXACT: u32 = 1;
 pub const NO_WORD: u32 = 0xDEAD_BEEF;
 
 /// Every combination of kind, dimension and mode.

@@ -21,7 +21,7 @@ fn one_damaged_bit() {
                 let mut damaged = stored.clone();
                 let bit = bits::get(&damaged, t);
                 bits::set(&mut damaged, t, !bit);
-                answers.count(compare_read(&p, &damaged, 1, words.len()).0);
+                answers.count(compare_read(&p, &damaged, 1, words.len()).0.answer);
             }
         }
     }
@@ -72,7 +72,7 @@ fn random_slots() {
             let width = if random.once_in(2) { 0 } else { 16 + random.below(300) as u32 };
             let p = Params { kind, dimension, mode, planes: any_planes(&mut random), width };
             let archive = random_slot(&mut random, &p);
-            answers.count(compare_read(&p, &archive, 0, block_len(&p)).0);
+            answers.count(compare_read(&p, &archive, 0, block_len(&p)).0.answer);
         }
     }
     answers.must_include(&[0, 11]);
@@ -138,7 +138,7 @@ fn exact_slots_with_other_heads() {
                 .map(|_| if random.once_in(3) { random.word() >> high >> low << low } else { 0 })
                 .collect();
             put(&mut archive, &mut at, &reference::planes::code(&coefficients, planes));
-            answers.count(compare_read(&p, &archive, 0, block_len(&p)).0);
+            answers.count(compare_read(&p, &archive, 0, block_len(&p)).0.answer);
         }
     }
     answers.must_include(&[0, 11]);
@@ -170,7 +170,7 @@ fn exact_float_slots_at_the_border_of_forms() {
         let planes = reference::code::needed_planes(&coefficients);
         put(&mut archive, &mut at, &bits::number(planes - 1, 5));
         put(&mut archive, &mut at, &reference::planes::code(&coefficients, planes));
-        answers.count(compare_read(&p, &archive, 0, block_len(&p)).0);
+        answers.count(compare_read(&p, &archive, 0, block_len(&p)).0.answer);
     }
     answers.must_include(&[0, 11]);
 }

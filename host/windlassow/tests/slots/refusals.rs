@@ -32,9 +32,9 @@ fn compare_refusals(random: &mut Random, p: &Params, archive: &[u8], answers: &m
         usize::MAX - 1,
         usize::MAX,
     ]);
-    answers.count(compare_store(p, archive, slot, &words).0);
-    answers.count(compare_read(p, archive, slot, len).0);
-    compare_counts(p, archive, &words).into_iter().for_each(|reply| answers.count(reply));
+    answers.count(compare_store(p, archive, slot, &words).0.answer);
+    answers.count(compare_read(p, archive, slot, len).0.answer);
+    compare_counts(p, archive, &words).into_iter().for_each(|reply| answers.count(reply.answer));
 }
 
 #[test]

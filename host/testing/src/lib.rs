@@ -1,0 +1,91 @@
+//! What the tests of several packages use: document 01's numbers, guarded buffers, and a count of answers.
+
+use std::ops::{Deref, DerefMut};
+use std::path::{Path, PathBuf};
+
+/// Kind 0.
+pub const INTEGERS: u32 = 0;
+/// Kind 1.
+pub const FLOATS: u32 = 1;
+/// Mode 0.
+pub const LOSSY: u32 = 0;
+/// Mode 1.
+pub const EXACT: u32 = 1;
+
+/// The repository's folder.
+pub fn repository() -> PathBuf {
+    let package = Path::new(env!("CARGO_MANIFEST_DIR"));
+    package.ancestors().nth(2).expect("the package is at host/testing").to_path_buf()
+}
+
+/// The bits of a text of 0s and 1s, spaces left out.
+pub fn bits(text: &str) -> Vec<bool> {
+    text.chars().filter(|digit| *digit != ' ').map(|digit| digit == '1').collect()
+}
+
+/// A buffer with places on both sides of it that no call may touch.
+pub struct Guarded<T> {
+    all: Vec<T>,
+    before: Vec<T>,
+    len: usize,
+}
+
+/// The places on each side.
+const GUARD: usize = 24;
+
+impl<T: Copy + PartialEq> Guarded<T> {
+    /// A buffer that holds `content`, between copies of `guard`.
+    pub fn new(content: &[T], guard: T) -> Guarded<T> {
+        let mut all = vec![guard; GUARD];
+        all.extend_from_slice(content);
+        all.resize(all.len() + GUARD, guard);
+        Guarded { before: all.clone(), all, len: content.len() }
+    }
+
+    /// Whether only the buffer itself can have changed.
+    pub fn is_intact(&self) -> bool {
+        let end = GUARD + self.len;
+        self.all[..GUARD] == self.before[..GUARD] && self.all[end..] == self.before[end..]
+    }
+
+    /// Whether nothing at all has changed.
+    pub fn is_unchanged(&self) -> bool {
+        self.all == self.before
+    }
+}
+
+impl<T> Deref for Guarded<T> {
+    type Target = [T];
+
+    fn deref(&self) -> &[T] {
+        &self.all[GUARD..GUARD + self.len]
+    }
+}
+
+impl<T> DerefMut for Guarded<T> {
+    fn deref_mut(&mut self) -> &mut [T] {
+        &mut self.all[GUARD..GUARD + self.len]
+    }
+}
+
+/// How often each answer was given.
+pub struct Answers([usize; 32]);
+
+impl Answers {
+    /// None so far.
+    pub fn none() -> Answers {
+        Answers([0; 32])
+    }
+
+    /// One more of this number.
+    pub fn count(&mut self, answer: u32) {
+        self.0[answer as usize] += 1;
+    }
+
+    /// Fails if one of these answers was never given: then the test did not reach it.
+    pub fn must_include(&self, answers: &[u32]) {
+        for &answer in answers {
+            assert!(self.0[answer as usize] > 0, "no call of this test gave the answer {answer}");
+        }
+    }
+}

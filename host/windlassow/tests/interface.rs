@@ -1,0 +1,133 @@
+//! The parts of the Rust interface that are not calls of the library: parameters, lengths, blocks of values, texts.
+
+use windlassow::{
+    Dimension, Kind, MAX_ARCHIVE_LEN, MAX_RUN_LEN, MAX_STREAM_LEN, Mode, Params, Refusal, fpc_read,
+    fpc_write, read_block, slot_count, slots, store_block,
+};
+
+#[test]
+fn parameters_are_shown_as_they_were_given() {
+    let p = Params::new(Kind::Floats, Dimension::Two, Mode::Lossy, 20, 130);
+    assert_eq!((p.kind(), p.dimension(), p.mode()), (Ok(Kind::Floats), Ok(Dimension::Two), Ok(Mode::Lossy)));
+    assert_eq!((p.planes(), p.width(), p.block_len(), p.slot_bits()), (20, 130, Ok(16), Ok(130)));
+    let bad = Params::from_numbers(2, 3, 4, 33, 15);
+    assert_eq!(bad.kind(), Err(Refusal::InvalidKind));
+    assert_eq!(bad.dimension(), Err(Refusal::InvalidDimension));
+    assert_eq!(bad.mode(), Err(Refusal::InvalidMode));
+    assert_eq!(
+        (bad.block_len(), bad.slot_bits()),
+        (Err(Refusal::InvalidDimension), Err(Refusal::InvalidDimension))
+    );
+}
+
+#[test]
+fn the_width_0_is_8n() {
+    let p = |dimension, width| Params::lossy_integers(dimension, 32, width);
+    assert_eq!((p(Dimension::One, 0).width(), p(Dimension::One, 0).slot_bits()), (0, Ok(32)));
+    assert_eq!(p(Dimension::Two, 0).slot_bits(), Ok(128));
+    for (width, bits) in [(15, None), (16, Some(16)), (1024, Some(1024)), (1025, None), (u32::MAX, None)] {
+        assert_eq!(p(Dimension::One, width).slot_bits(), bits.ok_or(Refusal::InvalidWidth));
+    }
+}
+
+/// The length has just that many slots, and a byte less has fewer, up to the longest archive.
+#[test]
+fn an_archive_has_the_slots_that_its_length_was_asked_for() {
+    for width in [0, 16, 17, 19, 48, 146, 1023, 1024] {
+        let p = Params::exact_floats(Dimension::One).with_width(width);
+        let most = 8 * MAX_ARCHIVE_LEN / p.slot_bits().unwrap();
+        for slots in [1, 2, 3, 7, 100, most - 1, most].into_iter().filter(|&slots| slots <= most) {
+            let archive = vec![0; p.archive_len(slots).unwrap()];
+            assert!(slot_count(p, &archive).unwrap() >= slots, "width {width}, {slots} slots");
+            assert!(slot_count(p, &archive[1..]).unwrap() < slots, "width {width}, {slots} slots");
+        }
+        assert_eq!(p.archive_len(0), Ok(0));
+        assert_eq!(p.archive_len(most + 1), Err(Refusal::ArchiveTooLong));
+        assert_eq!(p.archive_len(usize::MAX), Err(Refusal::ArchiveTooLong));
+    }
+}
+
+/// The limits named are the library's own.
+#[test]
+fn the_limits_are_the_librarys() {
+    let p = Params::exact_floats(Dimension::One);
+    assert!(slot_count(p, &vec![0; MAX_ARCHIVE_LEN]).is_ok());
+    assert_eq!(slot_count(p, &vec![0; MAX_ARCHIVE_LEN + 1]), Err(Refusal::ArchiveTooLong));
+    let (mut f, mut d, mut out) = ([0; 16], [0; 16], vec![0; 34_816]);
+    assert!(fpc_write(&mut f, &mut d, &vec![0; MAX_RUN_LEN], &mut out).is_ok());
+    let longer = fpc_write(&mut f, &mut d, &vec![0; MAX_RUN_LEN + 1], &mut out);
+    assert_eq!(longer, Err(Refusal::InputTooLong));
+    let read = |len, f: &mut [u64], d: &mut [u64]| fpc_read(f, d, &vec![0; len], &mut []);
+    assert_eq!(read(MAX_STREAM_LEN, &mut f, &mut d), Err(Refusal::NotAStream));
+    assert_eq!(read(MAX_STREAM_LEN + 1, &mut f, &mut d), Err(Refusal::InputTooLong));
+}
+
+/// Any patterns: -0, infinities, a NaN with a payload, a signalling one.
+#[test]
+fn blocks_of_floats_come_back_bit_for_bit() {
+    let p = Params::exact_floats(Dimension::One);
+    let mut archive = [0; 19];
+    for words in [[0x8000_0000, 0, 1, 0x7F7F_FFFF], [0x7F80_0000, 0xFF80_0000, 0x7FC0_1234, 0x7F80_0001]] {
+        store_block(p, &mut archive, 0, &words.map(f32::from_bits)).unwrap();
+        let back: [f32; 4] = read_block(p, &archive, 0).unwrap();
+        assert_eq!(back.map(f32::to_bits), words);
+    }
+}
+
+#[test]
+fn blocks_of_integers_come_back() {
+    let p = Params::exact_integers(Dimension::Two);
+    let mut archive = vec![0; p.archive_len(1).unwrap()];
+    let block: [i32; 16] = std::array::from_fn(|place| (place as i32 - 8) * 0x0FFF_FFFF);
+    store_block(p, &mut archive, 0, &block).unwrap();
+    assert_eq!(read_block(p, &archive, 0), Ok(block));
+}
+
+#[test]
+fn the_other_type_and_another_length_are_refused() {
+    let p = Params::exact_floats(Dimension::One);
+    let mut archive = [0; 19];
+    assert_eq!(store_block(p, &mut archive, 0, &[0i32; 4]), Err(Refusal::InvalidKind));
+    assert_eq!(read_block::<i32, 4>(p, &archive, 0), Err(Refusal::InvalidKind));
+    assert_eq!(slots::<i32, 4>(p, &archive).map(|slots| slots.len()), Err(Refusal::InvalidKind));
+    assert_eq!(store_block(p, &mut archive, 0, &[0f32; 3]), Err(Refusal::InvalidBlockLen));
+    assert_eq!(read_block::<f32, 16>(p, &archive, 0), Err(Refusal::InvalidBlockLen));
+    assert_eq!(slots::<f32, 16>(p, &archive).map(|slots| slots.len()), Err(Refusal::InvalidBlockLen));
+    assert_eq!(slots::<f32, 4>(p, &vec![0; 65_537]).map(|slots| slots.len()), Err(Refusal::ArchiveTooLong));
+}
+
+#[test]
+fn every_slot_once_and_in_order() {
+    let p = Params::exact_integers(Dimension::One);
+    let mut archive = vec![0; p.archive_len(100).unwrap()];
+    for slot in 0..100 {
+        store_block(p, &mut archive, slot, &[slot as i32; 4]).unwrap();
+    }
+    let mut all = slots::<i32, 4>(p, &archive).unwrap();
+    for slot in 0..100 {
+        assert_eq!(all.len(), 100 - slot);
+        assert_eq!(all.next(), Some(Ok([slot as i32; 4])));
+    }
+    assert_eq!((all.len(), all.next(), all.next()), (0, None, None));
+}
+
+/// Refusals 22 and 23 leave the tables zero, and their texts say so.
+#[test]
+fn texts_of_refusals() {
+    let (mut f, mut d, mut doubles) = ([7; 16], [7; 16], [0; 1]);
+    let refusal = fpc_read(&mut f, &mut d, &[0x77], &mut doubles).unwrap_err();
+    assert_eq!(
+        refusal.to_string(),
+        "the output is longer than the room lent, and both tables are now zero: it needs 2 bytes to write, or \
+         doubles to read"
+    );
+    assert_eq!((f, d), ([0; 16], [0; 16]));
+    let (mut f, mut d) = ([7; 16], [7; 16]);
+    let refusal = fpc_read(&mut f, &mut d, &[0x66, 0, 0], &mut doubles).unwrap_err();
+    assert!(refusal.to_string().ends_with("and both tables are now zero"));
+    assert_eq!((f, d), ([0; 16], [0; 16]));
+    assert_eq!(
+        Refusal::CodeTooLong { bits: 136 }.to_string(),
+        "the code is longer than the slot: it needs 136 bits"
+    );
+}

@@ -1,0 +1,76 @@
+//! The pictures of README.md say what the library does. (Its Rust example is run with the documentation's examples.)
+
+use reference::transform::order;
+use std::fs;
+use testing::{bits, repository};
+use windlassow::{Dimension, Params, fpc_write, read_block, store_block};
+
+/// The lines of the block of text that follows a sentence which begins like this.
+fn picture(sentence: &str) -> Vec<String> {
+    let page = fs::read_to_string(repository().join("README.md")).expect("the page is there");
+    let (_, after) = page.split_once(&format!("\n{sentence}")).expect("the README has the sentence");
+    let (_, block) = after.split_once("\n```text\n").expect("a picture follows");
+    block.lines().take_while(|line| *line != "```").map(String::from).collect()
+}
+
+/// Bytes that begin with these bits.
+fn bytes_of(bits: &[bool], len: usize) -> Vec<u8> {
+    let mut bytes = vec![0; len];
+    bits.iter().enumerate().for_each(|(t, &bit)| bytes[t / 8] |= u8::from(bit) << (t % 8));
+    bytes
+}
+
+#[test]
+fn the_bits_of_p5() {
+    let code = bits(&picture("The bits of P5")[0]);
+    let mut archive = [0xFF; 19];
+    let used = store_block(Params::exact_floats(Dimension::One), &mut archive, 0, &[1.0f32; 4]);
+    assert_eq!(used, Ok(code.len()));
+    assert_eq!(archive[..18], bytes_of(&code, 18));
+}
+
+/// The two slots of the picture: their bits, and the bytes that it gives for them.
+fn cut_slots() -> Vec<(Vec<bool>, Vec<u8>)> {
+    let lines = picture("A scan that the end of a lossy slot cuts");
+    let slot = |line: &String| {
+        let (digits, bytes) = line.strip_prefix("bits of the slot")?.split_once("bytes")?;
+        let bytes = bytes.split_whitespace().map(|byte| u8::from_str_radix(byte, 16).unwrap()).collect();
+        Some((bits(digits), bytes))
+    };
+    lines.iter().filter_map(slot).collect()
+}
+
+/// The first slot has the coefficient 0 0 0 u with u = 2^19, in negabinary -2^19. With a = 2^17 reading makes of w = -4a: y = -2a, w = -3a;
+/// y = -5a, w = -a; z = 5a; x = a.
+#[test]
+fn a_scan_cut_at_the_last_place_and_before_it() {
+    let p = Params::lossy_integers(Dimension::One, 32, 16);
+    let slots = cut_slots();
+    for (bits, bytes) in &slots {
+        assert_eq!((bits.len(), &bytes_of(bits, 2)), (16, bytes));
+    }
+    let blocks: Vec<[i32; 4]> = slots.iter().map(|(_, bytes)| read_block(p, bytes, 0).unwrap()).collect();
+    let a = 1 << 17;
+    assert_eq!(blocks, [[a, -5 * a, 5 * a, -a], [0; 4]]);
+}
+
+/// The reference's order is compared with document 01's in its own tests.
+#[test]
+fn the_order_of_coefficients() {
+    let lines = picture("The order in which the 16 coefficients");
+    let numbers =
+        |line: &String| line.split_whitespace().skip(3).map(|number| number.parse().unwrap()).collect();
+    let rows: Vec<Vec<usize>> = lines[1..].iter().map(numbers).collect();
+    for (number, place) in order(2).into_iter().enumerate() {
+        assert_eq!(rows[place / 4][place % 4], number, "place {place}");
+    }
+}
+
+#[test]
+fn a_pair_of_an_fpc_stream() {
+    let first = &picture("One pair of an FPC stream")[0];
+    let shown: Vec<u8> = first.split_whitespace().map(|byte| u8::from_str_radix(byte, 16).unwrap()).collect();
+    let (mut f, mut d, mut out) = ([0; 16], [0; 16], [0; 17]);
+    let len = fpc_write(&mut f, &mut d, &[5, 8], &mut out).unwrap();
+    assert_eq!(out[..len], shown);
+}
