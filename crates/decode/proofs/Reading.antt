@@ -1,0 +1,57 @@
+-- A block of float patterns read, by the first bits of its slot, as the reader goes through them.
+use mathlib.Core.Path.{_≡_, _∙_}
+use mathlib.Core.Bool.{Bool, true, false}
+use mathlib.Core.List.{List, _∷_, map}
+use Prim.Native.Nat.{ℕ, _+_, _^_, _≤_, _<_}
+use native.Mathlib.Omega.{arith}
+use lib.Ieee.{Format}
+use lib.ListN.{length, getD, replicate}
+use lib.Seq.{slice}
+use Rattle.bits.specs.Stream.{noOnes}
+use Rattle.words.specs.Word.{flip}
+use Rattle.planes.proofs.Reading.{slice-here}
+use Rattle.floats.specs.Pattern.{wordSize}
+use Rattle.codec.specs.Padded.{paddedMultiples, paddedFlipped, paddedFloats}
+use Rattle.codec.specs.Read.{readIntegers, scaledBy, readExactFloats, readLossyFloats}
+
+module _ (f : Format) (dim p : ℕ) (d : List Bool) (at end : ℕ) (b : Bool) (fits : end ≤ length d) (first : b ≡ getD d at false) where
+  one : at < end → slice at end d ≡ b ∷ slice (at + 1) end d
+  one h = rw first (slice-here d at end h fits)
+
+  pub lossy-zero : at < end → b ≡ false → readLossyFloats f dim p (slice at end d) ≡ replicate (4 ^ dim) 0
+  unfolding readLossyFloats
+  lossy-zero h e = rw (one h, e)
+
+  pub lossy-some : at < end → b ≡ true → readLossyFloats f dim p (slice at end d) ≡ scaledBy f (readIntegers f false dim p) (slice (at + 1) end d)
+  unfolding readLossyFloats
+  lossy-some h e = rw (one h, e)
+
+  pub exact-zero : at < end → b ≡ false → readExactFloats f dim p (slice at end d) ≡ replicate (4 ^ dim) 0
+  unfolding readExactFloats
+  exact-zero h e = rw (one h, e)
+
+  pub padded-zero : at < end → b ≡ false → paddedFloats f dim p (slice at end d) ≡ noOnes (slice (at + 1) end d)
+  unfolding paddedFloats
+  padded-zero h e = rw (one h, e)
+
+  module _ (c : Bool) (second : c ≡ getD d (at + 1) false) (h : at + 1 < end) (e : b ≡ true) where
+    two : slice at end d ≡ true ∷ c ∷ slice (at + 2) end d
+    two =
+        let n : at + 1 + 1 ≡ at + 2 = omega arith in
+        one (omega arith) ∙ rw (e, second, slice-here d (at + 1) end h fits, n)
+
+    pub exact-whole : c ≡ false → readExactFloats f dim p (slice at end d) ≡ scaledBy f (readIntegers f true dim p) (slice (at + 2) end d)
+    unfolding readExactFloats
+    exact-whole k = rw (two, k)
+
+    pub exact-raw : c ≡ true → readExactFloats f dim p (slice at end d) ≡ map (flip (wordSize f)) (readIntegers f true dim p (slice (at + 2) end d))
+    unfolding readExactFloats
+    exact-raw k = rw (two, k)
+
+    pub padded-multiples : c ≡ false → paddedFloats f dim p (slice at end d) ≡ paddedMultiples f dim p (slice (at + 2) end d)
+    unfolding paddedFloats
+    padded-multiples k = rw (two, k)
+
+    pub padded-flipped : c ≡ true → paddedFloats f dim p (slice at end d) ≡ paddedFlipped f dim p (slice (at + 2) end d)
+    unfolding paddedFloats
+    padded-flipped k = rw (two, k)

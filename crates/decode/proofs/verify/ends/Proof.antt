@@ -1,0 +1,33 @@
+-- The three questions, one after the other. Assumes nothing.
+use borrow.Author.Tests.{eq-eqb, ne-eqb}
+use native.Mathlib.Omega.{arith}
+use Rattle.codec.specs.Padded.{smallest}
+use mathlib.Core.Bool.{true, false}
+use mathlib.Core.Path.{_≡_, sym, _∙_}
+use borrow.Author.Needs.{needs}
+use Rattle.decode.proofs.verify.ends.Statement.{statement}
+use Rattle.decode.proofs.verify.ends.Tie as tie
+
+returns : tie.Need-returns
+returns c = rw (ne-eqb _ _ (c .if1 .taken))
+
+smallest-requires : tie.Need-smallest-requires
+smallest-requires c κs = search needs
+
+no-ones-requires : tie.Need-no-ones-requires
+no-ones-requires c κs = search needs
+
+returns-2 : tie.Need-returns-2
+returns-2 c =
+    let s = c .before .before .before .before .before .before .before in
+    let small : smallest (s .args .size) (s .args .p) (s .args .us .now) ≡ true = sym (c .before .before .smallest .ensures) ∙ c .before .if2 .taken in
+    rw (eq-eqb (s .args .read .whole) (s .args .p) (omega arith), small) (c .no-ones .ensures)
+
+returns-3 : tie.Need-returns-3
+returns-3 c =
+    let s = c .before .before .before .before .before .before in
+    let large : smallest (s .args .size) (s .args .p) (s .args .us .now) ≡ false = sym (c .before .smallest .ensures) ∙ c .if2 .left in
+    rw (eq-eqb (s .args .read .whole) (s .args .p) (omega arith), large)
+
+pub ends-spec : {M : Type 1} → statement M
+ends-spec = tie.close (tie.spec returns smallest-requires no-ones-requires returns-2 returns-3)
