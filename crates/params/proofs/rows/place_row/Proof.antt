@@ -1,11 +1,12 @@
 -- Rows 1 to 6 first, which give what the slot count needs, then rows 7 and 8. Assumes nothing.
 use mathlib.Core.Path.{refl, sym, _∙_}
 use mathlib.Core.List.{[], _∷_}
-use Rattle.slots.specs.Rules.{countRows, row7, row8}
-use Rattle.slots.proofs.RowLaws.{first-some, first-zero, sized}
+use Rattle.params.specs.Rows.{countRows, row7, row8}
+use Rattle.params.proofs.RowLists.{first-some, first-zero}
+use Rattle.params.proofs.RowLaws.{sized}
 use borrow.Author.Needs.{needs}
-use Rattle.slots.proofs.rows.place_row.Statement.{statement}
-use Rattle.slots.proofs.rows.place_row.Tie as tie
+use Rattle.params.proofs.rows.place_row.Statement.{statement}
+use Rattle.params.proofs.rows.place_row.Tie as tie
 
 count-row-requires : tie.Need-count-row-requires
 count-row-requires c κs = search needs
@@ -18,12 +19,12 @@ returns c =
 slots-in-requires : tie.Need-slots-in-requires
 slots-in-requires c κs =
     let h = sized (c .before .before .args .p) (c .before .before .args .size) (sym (c .before .count-row .ensures) ∙ c .if1 .left) in
-    (h .0 .dimension-from, h .0 .dimension-to, h .0 .width-from, h .1)
+    (h .0 .dimension, h .0 .width-from, h .1)
 
 word-count-requires : tie.Need-word-count-requires
 word-count-requires c κs =
     let h = sized (c .before .before .before .args .p) (c .before .before .before .args .size) (sym (c .before .before .count-row .ensures) ∙ c .before .if1 .left) in
-    (h .0 .dimension-from, h .0 .dimension-to)
+    h .0 .dimension
 
 row-requires : tie.Need-row-requires
 row-requires c κs = search needs

@@ -1,11 +1,11 @@
 -- Rows 1 to 5 first, then row 6. Assumes nothing.
 use mathlib.Core.Path.{refl, sym, _∙_}
 use mathlib.Core.List.{[], _∷_}
-use Rattle.slots.specs.Rules.{parameterRows, row6}
-use Rattle.slots.proofs.RowLaws.{first-some, first-zero}
+use Rattle.params.specs.Rows.{parameterRows, row6}
+use Rattle.params.proofs.RowLists.{first-some, first-zero}
 use borrow.Author.Needs.{needs}
-use Rattle.slots.proofs.rows.count_row.Statement.{statement}
-use Rattle.slots.proofs.rows.count_row.Tie as tie
+use Rattle.params.proofs.rows.count_row.Statement.{statement}
+use Rattle.params.proofs.rows.count_row.Tie as tie
 
 parameter-row-requires : tie.Need-parameter-row-requires
 parameter-row-requires c κs = search needs

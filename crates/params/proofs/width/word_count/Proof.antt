@@ -1,8 +1,8 @@
 -- By dimension. Assumes nothing.
 use mathlib.Core.Path.{_≡_}
 use native.Mathlib.Omega.{arith}
-use Rattle.slots.proofs.rows.word_count.Statement.{statement}
-use Rattle.slots.proofs.rows.word_count.Tie as tie
+use Rattle.params.proofs.width.word_count.Statement.{statement}
+use Rattle.params.proofs.width.word_count.Tie as tie
 
 returns : tie.Need-returns
 returns c = rw (c .if1 .taken)

@@ -2,10 +2,10 @@
 use mathlib.Core.Path.{refl}
 use native.Mathlib.Omega.{arith}
 use borrow.Author.Tests.{eq-eqb, ne-eqb}
-use Rattle.slots.proofs.RowLaws.{power-within}
+use Rattle.params.proofs.RowLaws.{power-within}
 use borrow.Author.Needs.{needs}
-use Rattle.slots.proofs.rows.width_of.Statement.{statement}
-use Rattle.slots.proofs.rows.width_of.Tie as tie
+use Rattle.params.proofs.width.width_of.Statement.{statement}
+use Rattle.params.proofs.width.width_of.Tie as tie
 
 word-count-requires : tie.Need-word-count-requires
 word-count-requires c κs = search needs
