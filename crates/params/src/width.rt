@@ -10,7 +10,7 @@ pub fn word_count(p: Params) -> usize
     requires { ⌜ Dimension (p .dimension) ⌝ }
     ensures { λ r. ⌜ r ≡ wordCount p ⌝ }
 {
-    if p.dimension == 1 { 4 } else { 16 }
+    1 << (2 * p.dimension)
 }
 
 // W, for a good dimension.

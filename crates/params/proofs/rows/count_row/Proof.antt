@@ -11,7 +11,10 @@ parameter-row-requires : tie.Need-parameter-row-requires
 parameter-row-requires c κs = search needs
 
 returns : tie.Need-returns
-returns c = c .before .parameter-row .ensures ∙ sym (first-some (parameterRows (c .before .before .args .p)) (row6 (c .before .before .args .size) ∷ []) (λ e. c .if1 .taken (c .before .parameter-row .ensures ∙ e)))
+returns c =
+    let s = c .before .before .args in
+    let e = c .before .parameter-row .ensures in
+    e ∙ sym (first-some (parameterRows (s .p)) (row6 (s .size) ∷ []) (λ z. c .if1 .taken (e ∙ z)))
 
 row-requires : tie.Need-row-requires
 row-requires c κs = search needs
@@ -19,7 +22,8 @@ row-requires c κs = search needs
 returns-2 : tie.Need-returns-2
 returns-2 c =
     let s = c .before .before .before .args in
-    rw (c .row .ensures) (sym (first-zero (parameterRows (s .p)) (row6 (s .size) ∷ []) refl (sym (c .before .before .parameter-row .ensures) ∙ c .before .if1 .left)))
+    let e = sym (c .before .before .parameter-row .ensures) ∙ c .before .if1 .left in
+    rw (c .row .ensures) (sym (first-zero (parameterRows (s .p)) (row6 (s .size) ∷ []) refl e))
 
 pub count-row-spec : {M : Type 1} → statement M
 count-row-spec = tie.close (tie.spec parameter-row-requires returns row-requires returns-2)

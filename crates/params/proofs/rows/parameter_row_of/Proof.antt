@@ -1,4 +1,5 @@
 -- Each row over the rows after it. Assumes nothing.
+use mathlib.Core.Path.{refl}
 use borrow.Author.Needs.{needs}
 use Rattle.params.proofs.rows.parameter_row_of.Statement.{statement}
 use Rattle.params.proofs.rows.parameter_row_of.Tie as tie
@@ -36,8 +37,11 @@ row-requires-5 c κs = search needs
 returns : tie.Need-returns
 returns c =
     let mode = c .before .before .before .before in
-    let plane = mode .before .before in
-    rw (c .row5 .ensures, c .before .row4 .ensures, mode .row3 .ensures, plane .row2 .ensures, plane .before .row .ensures, c .before .before .before .within3 .ensures, c .before .before .within4 .ensures, mode .before .within2 .ensures, plane .before .before .before .within .ensures, plane .before .before .good-width .ensures)
+    let lower = mode .before .before in
+    let planes = lower .before .before in
+    rw (c .row5 .ensures, c .before .row4 .ensures, mode .row3 .ensures, lower .row2 .ensures, lower .before .row .ensures)
+    (rw (mode .before .within2 .ensures, c .before .before .within4 .ensures, c .before .before .before .within3 .ensures)
+    (rw (planes .good-width .ensures, planes .before .within .ensures) refl))
 
 pub parameter-row-of-spec : {M : Type 1} → statement M
 parameter-row-of-spec =

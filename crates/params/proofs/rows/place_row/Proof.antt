@@ -14,7 +14,8 @@ count-row-requires c κs = search needs
 returns : tie.Need-returns
 returns c =
     let s = c .before .before .args in
-    c .before .count-row .ensures ∙ sym (first-some (countRows (s .p) (s .size)) (row7 (s .p) (s .size) (s .slot) ∷ row8 (s .p) (s .n) ∷ []) (λ e. c .if1 .taken (c .before .count-row .ensures ∙ e)))
+    let e = c .before .count-row .ensures in
+    e ∙ sym (first-some (countRows (s .p) (s .size)) (row7 (s .p) (s .size) (s .slot) ∷ row8 (s .p) (s .n) ∷ []) (λ z. c .if1 .taken (e ∙ z)))
 
 slots-in-requires : tie.Need-slots-in-requires
 slots-in-requires c κs =
@@ -23,8 +24,8 @@ slots-in-requires c κs =
 
 word-count-requires : tie.Need-word-count-requires
 word-count-requires c κs =
-    let h = sized (c .before .before .before .args .p) (c .before .before .before .args .size) (sym (c .before .before .count-row .ensures) ∙ c .before .if1 .left) in
-    h .0 .dimension
+    let s = c .before .before .before .args in
+    sized (s .p) (s .size) (sym (c .before .before .count-row .ensures) ∙ c .before .if1 .left) .0 .dimension
 
 row-requires : tie.Need-row-requires
 row-requires c κs = search needs
@@ -34,9 +35,12 @@ row-requires-2 c κs = search needs
 
 returns-2 : tie.Need-returns-2
 returns-2 c =
-    let s = c .before .before .before .before .before .before .args in
-    let e = sym (c .before .before .before .before .before .count-row .ensures) ∙ c .before .before .before .before .if1 .left in
-    rw (c .row2 .ensures, c .before .row .ensures, c .before .before .word-count .ensures, c .before .before .before .slots-in .ensures) (sym (first-zero (countRows (s .p) (s .size)) (row7 (s .p) (s .size) (s .slot) ∷ row8 (s .p) (s .n) ∷ []) refl e))
+    let n = c .before .before in
+    let found = n .before .before .before in
+    let s = found .before .args in
+    let e = sym (found .count-row .ensures) ∙ n .before .before .if1 .left in
+    rw (c .row2 .ensures, c .before .row .ensures, n .word-count .ensures, n .before .slots-in .ensures)
+    (sym (first-zero (countRows (s .p) (s .size)) (row7 (s .p) (s .size) (s .slot) ∷ row8 (s .p) (s .n) ∷ []) refl e))
 
 pub place-row-spec : {M : Type 1} → statement M
 place-row-spec =

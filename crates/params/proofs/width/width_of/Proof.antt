@@ -11,7 +11,9 @@ word-count-requires : tie.Need-word-count-requires
 word-count-requires c κs = search needs
 
 mul-result : tie.Need-mul-result
-mul-result c = omega (arith, c .word-count .ensures, power-within (c .before .before .args .p .dimension) (c .before .before .pre .0) (c .before .before .pre .1))
+mul-result c =
+    let s = c .before .before in
+    omega (arith, c .word-count .ensures, power-within (s .args .p .dimension) (s .pre .0) (s .pre .1))
 
 cast-result : tie.Need-cast-result
 cast-result c = search needs
