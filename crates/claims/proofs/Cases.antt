@@ -20,7 +20,8 @@ use Rattle.predict.specs.Stream.{zeroBytes, residual, code, halfByte, remaining
 use Rattle.predict.specs.Reading.{decoded, coded, stepOf, read}
 use Rattle.predict.specs.Outcome.{goodSize, goodTables, delivered, readOutcome}
 use Rattle.bits.specs.Stream.{write}
-use Rattle.slots.specs.Rules.{slotsIn, codeOf}
+use Rattle.params.specs.Width.{slotsIn}
+use Rattle.slots.specs.Rules.{codeOf}
 use Rattle.slots.specs.Outcome.{storeOutcome}
 use mathlib.Core.List.{flatMap}
 use Rattle.lines.specs.Hex.{hexDigit, digitValue}

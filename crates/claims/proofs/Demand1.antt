@@ -10,9 +10,11 @@ use lib.Dec.{eqb}
 use lib.ListN.{length, getD}
 use Rattle.bits.specs.Stream.{bitsOf, write}
 use Rattle.bits.proofs.WriteLaws.{write-before, write-beyond}
-use Rattle.slots.specs.declared.Params.{Params}
+use Rattle.params.specs.declared.Params.{Params}
 use Rattle.codec.specs.Code.{padded}
-use Rattle.slots.specs.Rules.{first, widthOf, slotsIn, codeOf, storeRows, readRows}
+use Rattle.params.specs.Width.{widthOf, slotsIn}
+use Rattle.params.specs.Rows.{first}
+use Rattle.slots.specs.Rules.{codeOf, storeRows, readRows}
 use Rattle.slots.specs.Outcome.{storeOutcome, readOutcome}
 
 -- demand 1: a refused store changes no bit of the archive

@@ -13,11 +13,15 @@ use Rattle.bits.proofs.StreamLaws.{length-bitsOf}
 use Rattle.bits.proofs.SameLaws.{same-refl}
 use Rattle.bits.proofs.WriteLaws.{slice-write}
 use Rattle.blocks.proofs.Lists.{Words}
-use Rattle.slots.specs.declared.Params.{Params}
+use Rattle.params.specs.declared.Params.{Params}
 use Rattle.codec.specs.Code.{padded}
-use Rattle.slots.specs.Rules.{first, exact, wordCount, widthOf, codeOf, wordsOf, placeRows, storeRows, readRows, row9, row10, row11}
+use Rattle.params.specs.Width.{exact, wordCount, widthOf}
+use Rattle.params.specs.Rows.{first, placeRows}
+use Rattle.slots.specs.Rules.{codeOf, wordsOf, storeRows, readRows, row9, row10, row11}
 use Rattle.slots.specs.Outcome.{storeOutcome, readOutcome, slotOf}
-use Rattle.slots.proofs.RowLaws.{Placed, placed, none, first-both, read-first}
+use Rattle.params.proofs.RowLists.{none, first-both}
+use Rattle.params.proofs.RowLaws.{Placed, placed}
+use Rattle.slots.proofs.RowLaws.{read-first}
 use Rattle.slots.proofs.Garbage.{IsBlock, padded-returns, row11-exactly}
 
 -- a done store passed every row

@@ -17,8 +17,10 @@ use Rattle.planes.proofs.Words.{Below}
 use Rattle.codec.specs.Code.{definedCode, padded}
 use Rattle.codec.proofs.Lengths.{four-some}
 use Rattle.codec.proofs.Longest.{longest, longest-code, longest-words}
-use Rattle.slots.specs.declared.Params.{Params}
-use Rattle.slots.specs.Rules.{first, float, exact, wordCount, widthOf, codeOf, placeRows, storeRows, row9}
+use Rattle.params.specs.declared.Params.{Params}
+use Rattle.params.specs.Width.{float, exact, wordCount, widthOf}
+use Rattle.params.specs.Rows.{first, placeRows}
+use Rattle.slots.specs.Rules.{codeOf, storeRows, row9}
 use Rattle.slots.specs.Outcome.{bitOutcome, storeOutcome}
 use Rattle.slots.proofs.RowLaws.{store-first}
 use Rattle.slots.proofs.Exact.{in-order, exact-bound}

@@ -12,9 +12,11 @@ use lib.Seq.{slice}
 use Rattle.bits.specs.Stream.{bitsOf, write}
 use Rattle.bits.proofs.WriteLaws.{slice-write-before, slice-write-after}
 use lib.ListN.{length}
-use Rattle.slots.specs.declared.Params.{Params}
+use Rattle.params.specs.declared.Params.{Params}
 use Rattle.codec.specs.Code.{padded}
-use Rattle.slots.specs.Rules.{first, widthOf, codeOf, storeRows}
+use Rattle.params.specs.Width.{widthOf}
+use Rattle.params.specs.Rows.{first}
+use Rattle.slots.specs.Rules.{codeOf, storeRows}
 use Rattle.slots.specs.Outcome.{storeOutcome, readOutcome, slotOf}
 
 -- "The read's answer depends on the parameters, the buffer's lengths, the slot number and that slot's W bits only": two archives of one length that agree on

@@ -2,9 +2,9 @@
 ghost use mathlib.Core.Path.{_≡_};
 ghost use mathlib.Core.Bool.{true};
 ghost use lib.ListN.{length};
-ghost use Rattle.slots.specs.Rules.{exact};
+ghost use Rattle.params.specs.Width.{exact};
 ghost use Rattle.slots.specs.Outcome.{readOutcome, slotOf};
-use slots::Params;
+use params::Params;
 use slots::Reply;
 
 // A block is stored and read back: an exact one returns, if the store is done and the buffer is as long as the block.

@@ -1,4 +1,4 @@
--- A line of more than 128 bytes is ill-formed, and so is what is held of it. Assumes nothing.
+-- A line of more bytes than the longest well-formed line has is ill-formed, and so is what is held of it. Assumes nothing.
 use mathlib.Core.Path.{_≡_, refl, ap}
 use mathlib.Core.Bool.{Bool, true, false, _&&_, cond}
 use mathlib.Core.List.{List, [], _∷_, _++_, append-nil}
@@ -9,10 +9,11 @@ use borrow.Author.Tests.{ne-eqb, eqb-true}
 use lib.Dec.{eqb}
 use lib.ListN.{length, take, replicate}
 use lib.Seq.{take-all, length-take-le}
-use Rattle.slots.specs.declared.Params.{Params}
-use Rattle.slots.specs.Rules.{first, parameterRows, wordCount}
+use Rattle.params.specs.declared.Params.{Params}
+use Rattle.params.specs.Width.{wordCount}
+use Rattle.params.specs.Rows.{first, parameterRows}
 use Rattle.slots.specs.Outcome.{storeOutcome}
-use Rattle.slots.proofs.RowLaws.{good}
+use Rattle.params.proofs.RowLaws.{good}
 use Rattle.lines.specs.Line.{wellFormed, firstDigits, parametersOf, firstAnswer, answerLine, illFormed, wordsOf, slotBytes, storedLine, blockDigits, blockLine, goodParameters, firstLine, firstParameters, noParameters, laterLine}
 use Rattle.frames.specs.Pieces.{State, mostHeld, answerTo, nextLine, hold}
 
@@ -30,7 +31,7 @@ longer digits bytes ended h = rw (ne-eqb (length bytes) digits (λ e. omega arit
     never false = refl
 
 -- what a line gives that depends on its bytes only if they are so many
-module _ {A : Type 0} (digits : ℕ) (small : digits ≤ 128) (g : List ℕ → A) (other : A) (bytes : List ℕ) (ended : Bool) where
+module _ {A : Type 0} (digits : ℕ) (small : digits < mostHeld) (g : List ℕ → A) (other : A) (bytes : List ℕ) (ended : Bool) where
   pub clipped : cond (wellFormed digits (record { bytes = take mostHeld bytes; ended = ended })) (g (take mostHeld bytes)) other
       ≡ cond (wellFormed digits (record { bytes = bytes; ended = ended })) (g bytes) other
   clipped = go (decLe (length bytes) mostHeld)

@@ -8,10 +8,11 @@ use native.Mathlib.Omega.{arith}
 use borrow.Author.Tests.{eqb-true, eq-eqb, ne-eqb, leb-true, le-leb}
 use lib.Dec.{eqb, leb}
 use lib.ListN.{length, take, drop, replicate, length-append}
-use Rattle.slots.specs.declared.Params.{Params}
-use Rattle.slots.specs.Rules.{first, parameterRows, wordCount}
+use Rattle.params.specs.declared.Params.{Params}
+use Rattle.params.specs.Width.{wordCount, widestBytes}
+use Rattle.params.specs.Rows.{first, parameterRows}
 use Rattle.slots.specs.Outcome.{Stored, storeOutcome}
-use Rattle.slots.proofs.RowLaws.{good}
+use Rattle.params.proofs.RowLaws.{good}
 use Rattle.lines.specs.Line.{newline, Line, wellFormed, firstAnswer, answerLine, illFormed, bytesOf, wordsOf, slotBytes, storedLine, blockDigits, blockLine, longestLine, goodParameters, firstLine, laterLine}
 use Rattle.frames.specs.Pieces.{State, lineOf, answerTo, nextLine, hold, run, nothingLeft, ending, taken}
 use Rattle.lines.proofs.PutLaws.{length-answer}
@@ -21,7 +22,7 @@ length-bytesOf : (n : ℕ) (bits : List Bool) → length (bytesOf n bits) ≡ n
 length-bytesOf zero bits = refl
 length-bytesOf (suc n) bits = ap suc (length-bytesOf n (drop 8 bits))
 
-stored-length : (p : Params) (o : Stored) → slotBytes p ≤ 128 → length (storedLine p o) ≤ longestLine
+stored-length : (p : Params) (o : Stored) → slotBytes p ≤ widestBytes → length (storedLine p o) ≤ longestLine
 unfolding storedLine
 stored-length p o h = rw (length-answer (o .answer) (o .count) (cond (eqb (o .answer) 0) (bytesOf (slotBytes p) (o .bits)) [])) (go (eqb (o .answer) 0))
   where

@@ -8,8 +8,8 @@ use native.Mathlib.Omega.{arith}
 use borrow.Author.Tests.{eq-eqb, ne-eqb, le-leb}
 use lib.Dec.{eqb}
 use lib.ListN.{length, take}
-use Rattle.slots.specs.declared.Params.{Params}
-use Rattle.slots.specs.Rules.{first, parameterRows}
+use Rattle.params.specs.declared.Params.{Params}
+use Rattle.params.specs.Rows.{first, parameterRows}
 use Rattle.lines.specs.Line.{newline, Line, wellFormed, firstDigits, parametersOf, firstAnswer, answerLine, blockLine, longestLine, goodParameters, noParameters, firstLine, firstParameters}
 use Rattle.frames.specs.Listing.{lastLine, linesAfter, listLines, listing}
 use Rattle.frames.specs.Pieces.{State, start, mostHeld, answerTo, nextLine, hold, run, nothingLeft, ending, taken, feedAll}

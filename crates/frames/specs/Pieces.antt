@@ -2,10 +2,11 @@
 use mathlib.Core.Path.{_≡_}
 use mathlib.Core.Bool.{Bool, true, false, not, _&&_, cond}
 use mathlib.Core.List.{List, [], _∷_, _++_}
-use Prim.Native.Nat.{ℕ, suc, _-_}
+use Prim.Native.Nat.{ℕ, suc, _+_, _-_, _*_}
 use lib.Dec.{eqb, leb}
 use lib.ListN.{length, take}
-use Rattle.slots.specs.declared.Params.{Params}
+use Rattle.params.specs.declared.Params.{Params}
+use Rattle.params.specs.Dimension.{mostWords}
 use Rattle.frames.specs.declared.Partial.{Partial}
 use Rattle.lines.specs.Line.{newline, Line, goodParameters, noParameters, firstLine, firstParameters, laterLine, longestLine, Put}
 
@@ -15,9 +16,9 @@ pub record State : Type 0 where
   pub params : Params
   pub held : List ℕ
 
--- 128 digits are the longest well-formed line. Of a longer one, one byte more is held: that it is ill-formed is then known
+-- eight digits a word are the longest well-formed line. Of a longer one, one byte more is held: that it is ill-formed is then known
 abbrev pub mostHeld : ℕ
-mostHeld = 129
+mostHeld = 8 * mostWords + 1
 
 -- the state that a program's value stands for
 unfoldable pub stateOf : Partial → State

@@ -8,13 +8,18 @@ ghost use mathlib.Core.Bool.{cond};
 ghost use lib.Dec.{eqb, leb};
 ghost use Rattle.lines.specs.Line.{longestLine, Put};
 ghost use Rattle.frames.specs.Pieces.{stateOf, start, stopped, answerTo, nextLine, hold, beforeNewline, lineLength, taken, nothingLeft, ending, Fed};
-use slots::Params;
+use lines::LONGEST_LINE;
+use params::MOST_WORDS;
+use params::Params;
+
+// How many bytes of a line are held: those of the longest well-formed line, eight digits a word, and one more.
+pub const MOST_HELD: usize = 8 * MOST_WORDS + 1;
 
 // What is kept between two pieces: whether the first line is done, its parameters, and the bytes of the line so far.
 pub struct Partial {
     pub started: bool,
     pub params: Params,
-    pub line: [u8; 129],
+    pub line: [u8; MOST_HELD],
     pub len: usize,
 }
 
@@ -45,7 +50,7 @@ pub fn start() -> Partial
     Partial {
         started: false,
         params,
-        line: [0u8; 129],
+        line: [0u8; MOST_HELD],
         len: 0,
     }
 }
@@ -55,7 +60,7 @@ pub fn stopped(s: Partial) -> bool
     ensures { λ r. ⌜ r ≡ stopped (stateOf s) ⌝ }
 {
     if s.started {
-        slots::rows::parameter_row(s.params) != 0
+        params::rows::parameter_row(s.params) != 0
     } else {
         false
     }
@@ -193,7 +198,7 @@ fn has_room(room: usize, made: usize) -> bool
     ensures { λ r. ⌜ r ≡ leb longestLine (room - made) ⌝ }
 {
     if made < room {
-        263 <= room - made
+        LONGEST_LINE <= room - made
     } else {
         false
     }
@@ -242,7 +247,7 @@ pub fn finish(s: Partial, out: &mut [u8]) -> End
         × Put (now (out .entry)) (now (out .exit)) 0 (cond (r .done) (ending (stateOf s)) []) (r .made)
         × (r .made ≤ length (now (out .exit))) ⌝ }
 {
-    if out.len() < 263 {
+    if out.len() < LONGEST_LINE {
         return End {
             done: false,
             made: 0,

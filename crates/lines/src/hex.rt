@@ -4,6 +4,7 @@ ghost use mathlib.Core.List.{flatMap};
 ghost use Prim.Native.Nat.{_+_, _*_, _≤_, _<_};
 ghost use lib.ListN.{length};
 ghost use lib.Seq.{sets, slice};
+ghost use Rattle.params.specs.Width.{widestBytes};
 ghost use Rattle.lines.specs.Hex.{hexDigit, hexDigits, isDecimal, isLetter, isDigit, allDigits, digitValue, hexValue};
 
 // The digit of a number below 16.
@@ -88,7 +89,7 @@ pub fn put_digits(out: &mut [u8], at: usize, n: u32, k: usize)
 
 // Two digits for each byte from place `at` on.
 pub fn put_bytes(out: &mut [u8], at: usize, bytes: &[u8])
-    requires { ⌜ (at + 2 * length (now bytes) ≤ length (now out)) × (length (now bytes) ≤ 128) ⌝ }
+    requires { ⌜ (at + 2 * length (now bytes) ≤ length (now out)) × (length (now bytes) ≤ widestBytes) ⌝ }
     ensures { λ r. ⌜ now (out .exit) ≡ sets (now (out .entry)) at (flatMap (hexDigits 2) (now (bytes .entry))) ⌝ }
 {
     let mut i = 0;

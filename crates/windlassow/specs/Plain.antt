@@ -1,6 +1,6 @@
 -- A caller's parameters from plain numbers.
 use Prim.Native.Nat.{ℕ}
-use Rattle.slots.specs.declared.Params.{Params}
+use Rattle.params.specs.declared.Params.{Params}
 
 abbrev pub params : ℕ → ℕ → ℕ → ℕ → ℕ → Params
 params kind dimension mode planes width = record { kind = kind; dimension = dimension; mode = mode; planes = planes; width = width }

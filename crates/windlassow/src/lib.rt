@@ -8,10 +8,10 @@ ghost use Rattle.fpc.specs.Calls.{outcome};
 ghost use Rattle.windlassow.specs.Plain.{params};
 
 // The record of the parameters.
-fn params_of(kind: u32, dimension: u32, mode: u32, planes: u32, width: u32) -> slots::Params
+fn params_of(kind: u32, dimension: u32, mode: u32, planes: u32, width: u32) -> params::Params
     ensures { λ r. ⌜ r ≡ params kind dimension mode planes width ⌝ }
 {
-    slots::Params {
+    params::Params {
         kind,
         dimension,
         mode,

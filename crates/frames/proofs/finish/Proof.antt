@@ -6,18 +6,19 @@ use borrow.Author.Tests.{le-leb, lt-leb}
 use Rattle.frames.specs.Pieces.{stateOf}
 use Rattle.lines.proofs.PutLaws.{put-none}
 use Rattle.frames.proofs.FitLaws.{answer-length}
+use Rattle.lines.specs.Line.{longestLine}
 use borrow.Author.Needs.{needs}
 use Rattle.frames.proofs.finish.Statement.{statement}
 use Rattle.frames.proofs.finish.Tie as tie
 
 returns : tie.Need-returns
-returns c = (sym (lt-leb 263 _ (c .if1 .taken)), put-none _ _, omega arith)
+returns c = (sym (lt-leb longestLine _ (c .if1 .taken)), put-none _ _, omega arith)
 
 nothing-left-requires : tie.Need-nothing-left-requires
 nothing-left-requires c κs = search needs
 
 returns-2 : tie.Need-returns-2
-returns-2 c = (sym (le-leb 263 _ (c .before .before .if1 .left)), rw (sym (c .before .nothing-left .ensures) ∙ c .if2 .taken) (put-none _ _), omega arith)
+returns-2 c = (sym (le-leb longestLine _ (c .before .before .if1 .left)), rw (sym (c .before .nothing-left .ensures) ∙ c .if2 .taken) (put-none _ _), omega arith)
 
 answer-line-requires : tie.Need-answer-line-requires
 answer-line-requires c κs = search needs
@@ -28,7 +29,7 @@ same-length c = search needs
 returns-3 : tie.Need-returns-3
 returns-3 c =
     let a = c .before .before .answer-line in (
-      sym (le-leb 263 _ (c .before .before .before .before .before .before .if1 .left)),
+      sym (le-leb longestLine _ (c .before .before .before .before .before .before .if1 .left)),
       rw (sym (c .before .before .before .before .before .nothing-left .ensures) ∙ c .before .before .before .before .if2 .left) (a .ensures),
       omega (arith, a .ensures .moved, answer-length (stateOf (c .before .before .before .before .before .before .before .before .args .s)) false, a .kept .1 .1 .0, c .before .before .before .before .before .before .if1 .left),
     )

@@ -2,6 +2,7 @@
 use Prim.Native.Nat.{_-_}
 use native.Mathlib.Omega.{arith}
 use borrow.Author.Tests.{lt-leb}
+use Rattle.lines.specs.Line.{longestLine}
 use borrow.Author.Needs.{needs}
 use Rattle.frames.proofs.has_room.Statement.{statement}
 use Rattle.frames.proofs.has_room.Tie as tie
@@ -13,7 +14,7 @@ returns : tie.Need-returns
 returns c = search needs
 
 returns-2 : tie.Need-returns-2
-returns-2 c = rw (lt-leb 263 (c .before .args .room - c .before .args .made) (omega arith))
+returns-2 c = rw (lt-leb longestLine (c .before .args .room - c .before .args .made) (omega arith))
 
 pub has-room-spec : {M : Type 1} → statement M
 has-room-spec = tie.close (tie.spec sub-result returns returns-2)

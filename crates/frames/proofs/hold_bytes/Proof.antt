@@ -4,7 +4,7 @@ use mathlib.Core.List.{List}
 use Prim.Native.Nat.{ℕ}
 use native.Mathlib.Omega.{arith}
 use lib.ListN.{length}
-use Rattle.frames.specs.Pieces.{stateOf, hold}
+use Rattle.frames.specs.Pieces.{stateOf, mostHeld, hold}
 use borrow.Author.Needs.{needs}
 use Rattle.frames.proofs.hold_bytes.Statement.{statement}
 use Rattle.frames.proofs.hold_bytes.Tie as tie
@@ -20,7 +20,7 @@ unfolding stateOf hold
 returns c =
     let a = c .before .before .before .before .before .before .args in
     let j = c .before .before .join in
-    let k : length (a .s .line) ≡ 129 = omega arith in
+    let k : length (a .s .line) ≡ mostHeld = omega arith in
     ap (λ (h : List ℕ). record { started = a .s .started; params = a .s .params; held = h }) (rw k at (j .ensures))
 
 pub hold-bytes-spec : {M : Type 1} → statement M

@@ -1,8 +1,8 @@
 -- The first bound decides whether the second is tested. Assumes nothing.
 use native.Mathlib.Omega.{arith}
 use borrow.Author.Tests.{le-leb, lt-leb}
-use Rattle.slots.proofs.rows.within.Statement.{statement}
-use Rattle.slots.proofs.rows.within.Tie as tie
+use Rattle.params.proofs.rows.within.Statement.{statement}
+use Rattle.params.proofs.rows.within.Tie as tie
 
 returns : tie.Need-returns
 returns c = rw (le-leb (c .before .args .low) (c .before .args .a) (omega arith))

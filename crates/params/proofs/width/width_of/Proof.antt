@@ -2,16 +2,18 @@
 use mathlib.Core.Path.{refl}
 use native.Mathlib.Omega.{arith}
 use borrow.Author.Tests.{eq-eqb, ne-eqb}
-use Rattle.slots.proofs.RowLaws.{power-within}
+use Rattle.params.proofs.RowLaws.{power-within}
 use borrow.Author.Needs.{needs}
-use Rattle.slots.proofs.rows.width_of.Statement.{statement}
-use Rattle.slots.proofs.rows.width_of.Tie as tie
+use Rattle.params.proofs.width.width_of.Statement.{statement}
+use Rattle.params.proofs.width.width_of.Tie as tie
 
 word-count-requires : tie.Need-word-count-requires
 word-count-requires c κs = search needs
 
 mul-result : tie.Need-mul-result
-mul-result c = omega (arith, c .word-count .ensures, power-within (c .before .before .args .p .dimension) (c .before .before .pre .0) (c .before .before .pre .1))
+mul-result c =
+    let s = c .before .before in
+    omega (arith, c .word-count .ensures, power-within (s .args .p .dimension) (s .pre .0) (s .pre .1))
 
 cast-result : tie.Need-cast-result
 cast-result c = search needs

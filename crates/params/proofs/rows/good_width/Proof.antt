@@ -1,8 +1,8 @@
 -- A width that is not 0 lies within the bounds. Assumes nothing.
 use borrow.Author.Tests.{eq-eqb, ne-eqb}
 use borrow.Author.Needs.{needs}
-use Rattle.slots.proofs.rows.good_width.Statement.{statement}
-use Rattle.slots.proofs.rows.good_width.Tie as tie
+use Rattle.params.proofs.rows.good_width.Statement.{statement}
+use Rattle.params.proofs.rows.good_width.Tie as tie
 
 within-requires : tie.Need-within-requires
 within-requires c κs = search needs

@@ -1,8 +1,8 @@
 -- The definition, over the width. Assumes nothing.
-use Rattle.slots.specs.Rules.{slotsIn}
+use Rattle.params.specs.Width.{slotsIn}
 use borrow.Author.Needs.{needs}
-use Rattle.slots.proofs.rows.slots_in.Statement.{statement}
-use Rattle.slots.proofs.rows.slots_in.Tie as tie
+use Rattle.params.proofs.width.slots_in.Statement.{statement}
+use Rattle.params.proofs.width.slots_in.Tie as tie
 
 mul-result : tie.Need-mul-result
 mul-result c = search needs
