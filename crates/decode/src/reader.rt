@@ -9,6 +9,7 @@ ghost use lib.Seq.{slice};
 ghost use Rattle.bits.specs.Stream.{bitsOf};
 ghost use Rattle.words.specs.Word.{Size, flip};
 ghost use Rattle.floats.specs.Pattern.{formatOf, wordSize, fieldBits};
+ghost use Rattle.codec.specs.Calls.{Shape, Range};
 ghost use Rattle.codec.specs.Head.{countBits};
 ghost use Rattle.codec.specs.Read.{readCoefficients, readIntegers, scaledBy, readExactFloats, readLossyFloats, readCode};
 ghost use Rattle.codec.specs.Padded.{paddedPlanes, paddedMultiples, paddedFlipped, paddedFloats, paddedBlock};
@@ -33,7 +34,7 @@ fn read_coefficients(
     end: usize,
     us: &mut [u64],
 ) -> bool
-    requires { ⌜ Size size × (p ≤ size) × (at + countBits (formatOf size) ≤ end) × (end ≤ 8 * length (now buf)) × (end < 2 ^ 32) ⌝ }
+    requires { ⌜ Size size × (p ≤ size) × Range at (countBits (formatOf size)) end (length (now buf)) ⌝ }
     ensures { λ r. ⌜ (now (us .exit) ≡ readCoefficients (formatOf size) exact (length (now (us .entry))) p (slice at end (bitsOf (now (buf .entry)))))
         × (r ≡ (not exact || paddedPlanes (formatOf size) (length (now (us .entry))) (slice at end (bitsOf (now (buf .entry)))))) ⌝ }
 {
@@ -59,7 +60,7 @@ fn read_integers(
     end: usize,
     words: &mut [u64],
 ) -> bool
-    requires { ⌜ Size size × (1 ≤ d) × (d ≤ 2) × (length (now words) ≡ 4 ^ d) × (p ≤ size) × (at + countBits (formatOf size) ≤ end) × (end ≤ 8 * length (now buf)) × (end < 2 ^ 32) ⌝ }
+    requires { ⌜ Shape size d p (length (now words)) × Range at (countBits (formatOf size)) end (length (now buf)) ⌝ }
     ensures { λ r. ⌜ (now (words .exit) ≡ readIntegers (formatOf size) exact d p (slice at end (bitsOf (now (buf .entry)))))
         × (r ≡ (not exact || paddedPlanes (formatOf size) (4 ^ d) (slice at end (bitsOf (now (buf .entry)))))) ⌝ }
 {
@@ -89,8 +90,8 @@ fn read_multiples_by(
     ints: &mut [u64],
     words: &mut [u64],
 ) -> bool
-    requires { ⌜ Size size × (1 ≤ d) × (d ≤ 2) × (length (now words) ≡ 4 ^ d) × (length (now ints) ≡ 4 ^ d) × (p ≤ size)
-        × (at + (fieldBits (formatOf size) + countBits (formatOf size)) ≤ end) × (end ≤ 8 * length (now buf)) × (end < 2 ^ 32) ⌝ }
+    requires { ⌜ Shape size d p (length (now words)) × (length (now ints) ≡ 4 ^ d)
+        × Range at (fieldBits (formatOf size) + countBits (formatOf size)) end (length (now buf)) ⌝ }
     ensures { λ r. ⌜ (now (words .exit) ≡ scaledBy (formatOf size) (readIntegers (formatOf size) true d p) (slice at end (bitsOf (now (buf .entry)))))
         × (r ≡ paddedMultiples (formatOf size) d p (slice at end (bitsOf (now (buf .entry))))) ⌝ }
 {
@@ -116,8 +117,8 @@ fn read_multiples(
     end: usize,
     words: &mut [u64],
 ) -> bool
-    requires { ⌜ Size size × (1 ≤ d) × (d ≤ 2) × (length (now words) ≡ 4 ^ d) × (p ≤ size)
-        × (at + (fieldBits (formatOf size) + countBits (formatOf size)) ≤ end) × (end ≤ 8 * length (now buf)) × (end < 2 ^ 32) ⌝ }
+    requires { ⌜ Shape size d p (length (now words))
+        × Range at (fieldBits (formatOf size) + countBits (formatOf size)) end (length (now buf)) ⌝ }
     ensures { λ r. ⌜ (now (words .exit) ≡ scaledBy (formatOf size) (readIntegers (formatOf size) true d p) (slice at end (bitsOf (now (buf .entry)))))
         × (r ≡ paddedMultiples (formatOf size) d p (slice at end (bitsOf (now (buf .entry))))) ⌝ }
 {
@@ -136,7 +137,7 @@ fn read_flipped(
     end: usize,
     words: &mut [u64],
 ) -> bool
-    requires { ⌜ Size size × (1 ≤ d) × (d ≤ 2) × (length (now words) ≡ 4 ^ d) × (p ≤ size) × (at + countBits (formatOf size) ≤ end) × (end ≤ 8 * length (now buf)) × (end < 2 ^ 32) ⌝ }
+    requires { ⌜ Shape size d p (length (now words)) × Range at (countBits (formatOf size)) end (length (now buf)) ⌝ }
     ensures { λ r. ⌜ (now (words .exit) ≡ map (flip (wordSize (formatOf size))) (readIntegers (formatOf size) true d p (slice at end (bitsOf (now (buf .entry))))))
         × (r ≡ paddedFlipped (formatOf size) d p (slice at end (bitsOf (now (buf .entry))))) ⌝ }
 {
@@ -155,8 +156,8 @@ fn read_exact_floats(
     end: usize,
     words: &mut [u64],
 ) -> bool
-    requires { ⌜ Size size × (1 ≤ d) × (d ≤ 2) × (length (now words) ≡ 4 ^ d) × (p ≤ size)
-        × (at + (2 + fieldBits (formatOf size) + countBits (formatOf size)) ≤ end) × (end ≤ 8 * length (now buf)) × (end < 2 ^ 32) ⌝ }
+    requires { ⌜ Shape size d p (length (now words))
+        × Range at (2 + fieldBits (formatOf size) + countBits (formatOf size)) end (length (now buf)) ⌝ }
     ensures { λ r. ⌜ (now (words .exit) ≡ readExactFloats (formatOf size) d p (slice at end (bitsOf (now (buf .entry)))))
         × (r ≡ paddedFloats (formatOf size) d p (slice at end (bitsOf (now (buf .entry))))) ⌝ }
 {
@@ -181,8 +182,8 @@ fn read_lossy_floats(
     end: usize,
     words: &mut [u64],
 )
-    requires { ⌜ Size size × (1 ≤ d) × (d ≤ 2) × (length (now words) ≡ 4 ^ d) × (p ≤ size)
-        × (at + (1 + fieldBits (formatOf size) + countBits (formatOf size)) ≤ end) × (end ≤ 8 * length (now buf)) × (end < 2 ^ 32) ⌝ }
+    requires { ⌜ Shape size d p (length (now words))
+        × Range at (1 + fieldBits (formatOf size) + countBits (formatOf size)) end (length (now buf)) ⌝ }
     ensures { λ _. ⌜ now (words .exit) ≡ readLossyFloats (formatOf size) d p (slice at end (bitsOf (now (buf .entry)))) ⌝ }
 {
     if bits::get(buf, at) {
@@ -194,8 +195,8 @@ fn read_lossy_floats(
 
 // e, then integers, which become patterns at e: a lossy block after its first bit.
 fn read_scaled(size: u32, d: u32, p: u32, buf: &[u8], at: usize, end: usize, words: &mut [u64])
-    requires { ⌜ Size size × (1 ≤ d) × (d ≤ 2) × (length (now words) ≡ 4 ^ d) × (p ≤ size)
-        × (at + (fieldBits (formatOf size) + countBits (formatOf size)) ≤ end) × (end ≤ 8 * length (now buf)) × (end < 2 ^ 32) ⌝ }
+    requires { ⌜ Shape size d p (length (now words))
+        × Range at (fieldBits (formatOf size) + countBits (formatOf size)) end (length (now buf)) ⌝ }
     ensures { λ _. ⌜ now (words .exit) ≡ scaledBy (formatOf size) (readIntegers (formatOf size) false d p) (slice at end (bitsOf (now (buf .entry)))) ⌝ }
 {
     let head = field_bits(size);
@@ -216,8 +217,8 @@ pub fn read_block(
     end: usize,
     words: &mut [u64],
 ) -> bool
-    requires { ⌜ Size size × (1 ≤ d) × (d ≤ 2) × (length (now words) ≡ 4 ^ d) × (p ≤ size)
-        × (at + (2 + fieldBits (formatOf size) + countBits (formatOf size)) ≤ end) × (end ≤ 8 * length (now buf)) × (end < 2 ^ 32) ⌝ }
+    requires { ⌜ Shape size d p (length (now words))
+        × Range at (2 + fieldBits (formatOf size) + countBits (formatOf size)) end (length (now buf)) ⌝ }
     ensures { λ r. ⌜ (now (words .exit) ≡ readCode (formatOf size) float exact d p (slice at end (bitsOf (now (buf .entry)))))
         × (r ≡ (not exact || paddedBlock (formatOf size) float d p (slice at end (bitsOf (now (buf .entry)))))) ⌝ }
 {

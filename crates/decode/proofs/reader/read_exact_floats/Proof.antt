@@ -32,7 +32,7 @@ returns c =
     let s = c .before .before .before .before .before .before .before .before .before in
     let d = bitsOf (s .args .buf .now) in
     let zero = not-true _ (c .before .before .before .before .before .if1 .taken) in (
-      c .before .before .before .clear .ensures ∙ ap (λ (n : ℕ). replicate n 0) (s .pre .3)
+      c .before .before .before .clear .ensures ∙ ap (λ (n : ℕ). replicate n 0) (s .pre .0 .long)
           ∙ sym (exact-zero (formatOf (s .args .size)) (s .args .d) (s .args .p) d (s .args .at) (s .args .end) _ (omega (arith, length-bitsOf (s .args .buf .now))) (c .before .before .before .before .before .before .get .ensures) (omega arith) zero),
       c .no-ones .ensures ∙ sym (padded-zero (formatOf (s .args .size)) (s .args .d) (s .args .p) d (s .args .at) (s .args .end) _ (omega (arith, length-bitsOf (s .args .buf .now))) (c .before .before .before .before .before .before .get .ensures) (omega arith) zero),
     )

@@ -14,7 +14,7 @@ read-integers-requires : tie.Need-read-integers-requires
 read-integers-requires c κs = search needs
 
 change-all-requires : tie.Need-change-all-requires
-change-all-requires c κs = let s = c .before .before .before .before .before .before .before in (s .pre .0, λ i h. tt)
+change-all-requires c κs = let s = c .before .before .before .before .before .before .before in (s .pre .0 .sized, λ i h. tt)
 
 others-requires : tie.Need-others-requires
 others-requires c κs = search needs

@@ -25,7 +25,7 @@ slice-aggregate-copy c = search needs
 copy-requires : tie.Need-copy-requires
 copy-requires c κs =
     let s = c .before .before .before .before .before .before .before .before .before in
-    s .pre .3 ∙ ap (λ (n : ℕ). 4 ^ n) (c .before .before .before .before .before .before .if1 .taken) ∙ sym (ap length (c .before .before .values4 .ensures) ∙ length-values 1 line-in-order (s .args .size) (s .args .exact) _)
+    s .pre .0 .long ∙ ap (λ (n : ℕ). 4 ^ n) (c .before .before .before .before .before .before .if1 .taken) ∙ sym (ap length (c .before .before .values4 .ensures) ∙ length-values 1 line-in-order (s .args .size) (s .args .exact) _)
 
 slice-aggregate-read-coefficients-2 : tie.Need-slice-aggregate-read-coefficients-2
 slice-aggregate-read-coefficients-2 c = search needs
@@ -43,7 +43,7 @@ copy-requires-2 : tie.Need-copy-requires-2
 copy-requires-2 c κs =
     let s = c .before .before .before .before .before .before .before .before .before in
     let e : s .args .d ≡ 2 = omega arith in
-    s .pre .3 ∙ ap (λ (n : ℕ). 4 ^ n) e ∙ sym (ap length (c .before .before .values16 .ensures) ∙ length-values 2 square-in-order (s .args .size) (s .args .exact) _)
+    s .pre .0 .long ∙ ap (λ (n : ℕ). 4 ^ n) e ∙ sym (ap length (c .before .before .values16 .ensures) ∙ length-values 2 square-in-order (s .args .size) (s .args .exact) _)
 
 same-length : tie.Need-same-length
 same-length c = search needs
@@ -53,7 +53,7 @@ returns c =
     let s = c .before .before .before .before .before .before .before .before .before .before .before .before in
     let read = c .before .before .before .before .before .before .before .read-coefficients .ensures in
     let e = c .before .before .before .before .before .before .before .before .before .if1 .taken in (
-      rw e (c .before .before .copy .ensures ∙ values-of (s .args .size) (s .args .exact) 1 (s .args .p) _ _ _ (s .pre .0) (read .0) (c .before .before .before .before .before .values4 .ensures)),
+      rw e (c .before .before .copy .ensures ∙ values-of (s .args .size) (s .args .exact) 1 (s .args .p) _ _ _ (s .pre .0 .sized) (read .0) (c .before .before .before .before .before .values4 .ensures)),
       rw e (read .1),
     )
 
@@ -65,7 +65,7 @@ returns-2 c =
     let s = c .before .before .before .before .before .before .before .before .before .before .before .before in
     let e : s .args .d ≡ 2 = omega arith in
     let read = c .before .before .before .before .before .before .before .read-coefficients2 .ensures in (
-      rw e (c .before .before .copy2 .ensures ∙ values-of (s .args .size) (s .args .exact) 2 (s .args .p) _ _ _ (s .pre .0) (read .0) (c .before .before .before .before .before .values16 .ensures)),
+      rw e (c .before .before .copy2 .ensures ∙ values-of (s .args .size) (s .args .exact) 2 (s .args .p) _ _ _ (s .pre .0 .sized) (read .0) (c .before .before .before .before .before .values16 .ensures)),
       rw e (read .1),
     )
 

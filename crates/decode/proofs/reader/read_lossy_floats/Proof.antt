@@ -39,7 +39,7 @@ returns-2 : tie.Need-returns-2
 returns-2 c =
     let s = c .before .before .before .before .before .before .before .before in
     let d = bitsOf (s .args .buf .now) in
-    c .before .before .clear .ensures ∙ ap (λ (n : ℕ). replicate n 0) (s .pre .3)
+    c .before .before .clear .ensures ∙ ap (λ (n : ℕ). replicate n 0) (s .pre .0 .long)
     ∙ sym (lossy-zero (formatOf (s .args .size)) (s .args .d) (s .args .p) d (s .args .at) (s .args .end) _ (omega (arith, length-bitsOf (s .args .buf .now))) (c .before .before .before .before .before .get .ensures) (omega arith) (c .before .before .before .before .if1 .left))
 
 pub read-lossy-floats-spec : {M : Type 1} → statement M

@@ -12,18 +12,18 @@ scratch-requires c κs = search needs
 array-borrow-prefix-ints : tie.Need-array-borrow-prefix-ints
 array-borrow-prefix-ints c =
     let s = c .before .before .before in
-    scratch-part (length (s .args .words .now)) (s .args .d) (s .pre .2) (s .pre .3) (c .scratch .ensures) .within
+    scratch-part (length (s .args .words .now)) (s .args .d) (s .pre .0 .dimension .1) (s .pre .0 .long) (c .scratch .ensures) .within
 
 slice-aggregate-read-multiples-by : tie.Need-slice-aggregate-read-multiples-by
 slice-aggregate-read-multiples-by c =
     let s = c .before .before .before .before in
-    sym (scratch-part (length (s .args .words .now)) (s .args .d) (s .pre .2) (s .pre .3) (c .before .scratch .ensures) .long)
+    sym (scratch-part (length (s .args .words .now)) (s .args .d) (s .pre .0 .dimension .1) (s .pre .0 .long) (c .before .scratch .ensures) .long)
 
 read-multiples-by-requires : tie.Need-read-multiples-by-requires
 read-multiples-by-requires c κs =
     let s = c .before .before .before .before .before in
-    let long = scratch-part (length (s .args .words .now)) (s .args .d) (s .pre .2) (s .pre .3) (c .before .before .scratch .ensures) .long in
-    (s .pre .0, s .pre .1, s .pre .2, s .pre .3, long ∙ s .pre .3, s .pre .4, s .pre .5, s .pre .6, s .pre .7)
+    let long = scratch-part (length (s .args .words .now)) (s .args .d) (s .pre .0 .dimension .1) (s .pre .0 .long) (c .before .before .scratch .ensures) .long in
+    (s .pre .0, long ∙ s .pre .0 .long, s .pre .1)
 
 same-length : tie.Need-same-length
 same-length c = search needs

@@ -38,14 +38,14 @@ change-all-requires c κs =
     let field = get .before in
     let s = field .before .before .before .before in
     let few = number-lt (bitsOf (s .args .buf .now)) (s .args .at) (field .field-bits .result) (omega (arith, field .field-bits .ensures, length-bitsOf (s .args .buf .now))) in
-    (s .pre .0, λ i h. omega (arith, get .get-number .ensures, field .field-bits .ensures, few))
+    (s .pre .0 .sized, λ i h. omega (arith, get .get-number .ensures, field .field-bits .ensures, few))
 
 multiples-requires : tie.Need-multiples-requires
 multiples-requires c κs =
     let copied = c .before .before .before .before .before .before .before .before .before in
     let get = c .before .before .before .before .before .before .before .before .before .before .before .before .before .before .before .before in
     let s = c .before .before .before .before .before .before .before .before .before .before .before .before .before .before .before .before .before .before .before .before .before in
-    (s .pre .0, c .before .before .before .before .before .change-all .ensures ∙ ap (map (toPattern (formatOf (s .args .size)) (get .get-number .result))) (copied .copy .ensures))
+    (s .pre .0 .sized, c .before .before .before .before .before .change-all .ensures ∙ ap (map (toPattern (formatOf (s .args .size)) (get .get-number .result))) (copied .copy .ensures))
 
 same-length : tie.Need-same-length
 same-length c = search needs

@@ -23,7 +23,7 @@ change-all-requires c κs =
     let g = c .before .before .before .before .before in
     let k = g .before in
     let s = k .before .before .before in
-    (s .pre .0, λ i h. omega (arith, g .get-number .ensures, k .field-bits .ensures, number-lt (bitsOf (s .args .buf .now)) (s .args .at) (k .field-bits .result) (omega (arith, k .field-bits .ensures, length-bitsOf (s .args .buf .now)))))
+    (s .pre .0 .sized, λ i h. omega (arith, g .get-number .ensures, k .field-bits .ensures, number-lt (bitsOf (s .args .buf .now)) (s .args .at) (k .field-bits .result) (omega (arith, k .field-bits .ensures, length-bitsOf (s .args .buf .now)))))
 
 same-length : tie.Need-same-length
 same-length c = search needs
