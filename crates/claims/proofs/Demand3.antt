@@ -18,6 +18,7 @@ use Rattle.codec.specs.Code.{definedCode, padded}
 use Rattle.codec.proofs.Lengths.{four-some}
 use Rattle.codec.proofs.Longest.{longest, longest-code, longest-words}
 use Rattle.params.specs.declared.Params.{Params}
+use Rattle.params.specs.Dimension.{Dimension}
 use Rattle.params.specs.Width.{float, exact, wordCount, widthOf}
 use Rattle.params.specs.Rows.{first, placeRows}
 use Rattle.slots.specs.Rules.{codeOf, storeRows, row9}
@@ -69,18 +70,18 @@ refuses-longer p ws e h archive k rows plain =
     let r : first (storeRows p (length archive) k ws) ≡ 10 = store-first p (length archive) k ws rows ∙ rw (plain, e, t) in
     rw r (refl, refl)
 
-module _ (p : Params) (some : 1 ≤ p .dimension) (few : p .dimension ≤ 2) (e : exact p ≡ true) where
+module _ (p : Params) (good : Dimension (p .dimension)) (e : exact p ≡ true) where
   -- demand 3: every slot of 33N + 4 bits or more takes every exact block of integers, for each N
   pub takes-integers : (ws : List ℕ) → float p ≡ false → 33 * wordCount p + 4 ≤ widthOf p → Takes p ws
-  takes-integers ws k wide = takes-fitting p ws (le-trans (rw k at (exact-bound p some few ws e)) wide)
+  takes-integers ws k wide = takes-fitting p ws (le-trans (rw k at (exact-bound p good ws e)) wide)
 
   -- demand 3: every slot of 33N + 14 bits or more takes every exact block of float patterns
   pub takes-floats : (ws : List ℕ) → float p ≡ true → 33 * wordCount p + 14 ≤ widthOf p → Takes p ws
-  takes-floats ws k wide = takes-fitting p ws (le-trans (rw k at (exact-bound p some few ws e)) wide)
+  takes-floats ws k wide = takes-fitting p ws (le-trans (rw k at (exact-bound p good ws e)) wide)
 
   longest-bits : float p ≡ false → length (codeOf p (longest binary32 (p .dimension))) ≡ 33 * wordCount p + 4
   unfolding codeOf definedCode
-  longest-bits k = rw (k, e) (longest-code binary32 (p .dimension) (in-order (p .dimension) some few) ∙ omega (arith, four-some (p .dimension)))
+  longest-bits k = rw (k, e) (longest-code binary32 (p .dimension) (in-order (p .dimension) good) ∙ omega (arith, four-some (p .dimension)))
 
   -- demand 3: for each N some exact block of integers is refused as too long by every slot of 33N + 3 bits, with 33N + 4
   pub refuses-longest : float p ≡ false → widthOf p ≡ 33 * wordCount p + 3 → RefusesAsTooLong p (longest binary32 (p .dimension)) (33 * wordCount p + 4)
@@ -90,7 +91,7 @@ module _ (p : Params) (some : 1 ≤ p .dimension) (few : p .dimension ≤ 2) (e 
 
   -- and that block is one: N words of 32 bits
   pub longest-block : IsBlock (p .dimension) (longest binary32 (p .dimension))
-  longest-block = let w = longest-words binary32 (p .dimension) (in-order (p .dimension) some few) in record { long = w .0; words = w .1 }
+  longest-block = let w = longest-words binary32 (p .dimension) (in-order (p .dimension) good) in record { long = w .0; words = w .1 }
 
 -- demand 3: every count of code bits reported is the length of the defined code: by a done store and with answer 10
 pub store-count : (p : Params) (archive : List ℕ) (k : ℕ) (ws : List ℕ)
