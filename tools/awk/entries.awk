@@ -7,7 +7,7 @@ names { source[$1, $3] = crate "." module "." $3; next }
 FILENAME ~ /proofs$/ { print "proof", crate, module, last(module), 0, $2, $3, ""; next }
 FILENAME ~ /functions$/ {
     section = $4 == "fn" ? "contract" : "type"
-    print section, crate, module "::" $3, $3, (crate in open) && ($5 || $3 == "main"), $6, $7, cited($1, $6)
+    print section, crate, module "::" $3, $3, (crate in open) && module == crate && ($5 || $3 == "main"), $6, $7, cited($1, $6)
     next
 }
 { print (path[3] == "specs" ? "definition" : "law"), crate, crate "." module "." $3, $3, 0, $6, $7, cited($1, $6) }

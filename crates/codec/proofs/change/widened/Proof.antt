@@ -2,6 +2,7 @@
 use borrow.Author.Needs.{needs}
 use lib.ListN.{length, getD, take, length-set}
 use lib.Seq.{take-suc, take-suc-set, take-all}
+use Rattle.params.specs.Dimension.{mostWords}
 use native.Mathlib.Numerals.{add-one}
 use native.Mathlib.Omega.{arith}
 use Prim.Native.Nat.{_≤_, _-_}
@@ -10,7 +11,7 @@ use Rattle.codec.proofs.change.widened.Statement.{statement}
 use Rattle.codec.proofs.change.widened.Tie as tie
 
 abbrev Inv-loop : tie.InvT-loop
-Inv-loop words wide₀ i₀ wide i = (i ≤ length words) × (length wide ≡ 16) × (take i wide ≡ take i words)
+Inv-loop words wide₀ i₀ wide i = (i ≤ length words) × (length wide ≡ mostWords) × (take i wide ≡ take i words)
 
 abbrev μ-loop : tie.MeasureT-loop
 μ-loop words wide₀ i₀ wide i = length words - i
