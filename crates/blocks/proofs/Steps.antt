@@ -5,9 +5,8 @@ use mathlib.Core.List.{[], _∷_}
 use Prim.Native.Nat.{ℕ, zero, suc, _^_, _<_}
 use lib.Pow.{pow-pos}
 use Rattle.words.proofs.Sums.{plus-lt, minus-lt, plus-minus, minus-plus}
-use Rattle.words.proofs.Halves.{half-lt}
 use Rattle.words.specs.Word.{plus, minus}
-use Rattle.blocks.specs.Four.{Transform, lift, twiceLess, unlift, differ, undiffer, writing, reading}
+use Rattle.blocks.specs.Four.{Transform, twiceLess, unlift, differ, undiffer, reading}
 use Rattle.blocks.specs.Axes.{onFour}
 use Rattle.blocks.proofs.Lists.{Words}
 
@@ -27,11 +26,6 @@ words-four k hx hy hz hw (suc (suc (suc zero))) = hw
 words-four k hx hy hz hw (suc (suc (suc (suc i)))) = pow-pos k
 
 module _ (k : ℕ) where
-  pub keeps-lift : 0 < k → Keeps k (lift k)
-  unfolding lift
-  keeps-lift some x y z w _ _ _ _ =
-      words-four k (half-lt k _ some (plus-lt k _ _)) (minus-lt k _ _) (minus-lt k _ _) (plus-lt k _ _)
-
   pub keeps-unlift : Keeps k (unlift k)
   unfolding twiceLess unlift
   keeps-unlift x y z w _ _ _ _ = words-four k (minus-lt k _ _) (plus-lt k _ _) (minus-lt k _ _) (plus-lt k _ _)
@@ -75,10 +69,6 @@ module _ (k : ℕ) where
         minus-plus k z y hz hy,
         minus-plus k w z hw hz,
       )
-
-pub keeps-writing : (k : ℕ) → 0 < k → (exact : Bool) → Keeps k (writing k exact)
-keeps-writing k some true = keeps-differ k
-keeps-writing k some false = keeps-lift k some
 
 pub keeps-reading : (k : ℕ) → (exact : Bool) → Keeps k (reading k exact)
 keeps-reading k true = keeps-undiffer k

@@ -2,14 +2,14 @@
 use mathlib.Core.Path.{_≡_, refl, sym, ap, ap₂, _∙_}
 use mathlib.Core.Bool.{Bool, true, false, _&&_, _||_, false≢true, and-eq-true-iff}
 use mathlib.Core.List.{List, [], _∷_, map}
-use Prim.Native.Nat.{ℕ, zero, suc, zero-le, suc-le-suc, _+_, _/_, _^_, _≤_, _<_, max}
-use native.Mathlib.Nat.{le-trans, lt-of-le-of-lt, le-max-left, le-max-right, max-le, max-zero, le-antisymm, mod-lt, zero-lt-suc, le-of-suc-le-suc}
+use Prim.Native.Nat.{ℕ, zero, suc, suc-le-suc, _+_, _^_, _≤_, _<_, max}
+use native.Mathlib.Nat.{le-trans, lt-of-le-of-lt, le-max-left, le-max-right, max-le, max-zero, le-antisymm, zero-lt-suc, le-of-suc-le-suc}
 use native.Mathlib.Numerals.{add-one}
 use native.Mathlib.Omega.{arith}
 use lib.ListN.{length, getD, drop, drop-of-length-le}
 use lib.Seq.{drop-cons}
 use borrow.Author.Tests.{ne-eqb}
-use lib.Ieee.{Format, hid, ones}
+use lib.Ieee.{Format, ones}
 use Rattle.floats.specs.Pattern.{wordSize, exponentField, special}
 use Rattle.floats.specs.Integer.{toInteger, toPattern, whole}
 use Rattle.floats.specs.Block.{every, some, largestField, blockExponent, anySpecial, allWhole}
@@ -52,11 +52,6 @@ module _ (p : ℕ → Bool) where
     pub some-end : length ws ≤ i → some p (drop i ws) ≡ some p ws → false ≡ some p ws
     some-end l h = ap (some p) (sym (drop-of-length-le ws l)) ∙ h
 
-  pub every-at : (ws : List ℕ) → every p ws ≡ true → (i : ℕ) → i < length ws → p (getD ws i 0) ≡ true
-  every-at [] h i l = absurd (omega arith)
-  every-at (w ∷ ws) h zero l = and-eq-true-iff (p w) (every p ws) .0 h .0
-  every-at (w ∷ ws) h (suc i) l = every-at ws (and-eq-true-iff (p w) (every p ws) .0 h .1) i (le-of-suc-le-suc l)
-
   pub none-at : (ws : List ℕ) → some p ws ≡ false → (i : ℕ) → i < length ws → p (getD ws i 0) ≡ false
   none-at [] h i l = absurd (omega arith)
   none-at (w ∷ ws) h zero l = or-left (p w) (some p ws) h
@@ -89,10 +84,6 @@ module _ (f : Format) where
   field-le [] i l = absurd (omega arith)
   field-le (w ∷ ws) zero l = le-max-left (exponentField f w) (largestField f ws)
   field-le (w ∷ ws) (suc i) l = le-trans (field-le ws i (le-of-suc-le-suc l)) (le-max-right (exponentField f w) (largestField f ws))
-
-  pub largest-le : (ws : List ℕ) → largestField f ws ≤ ones f
-  largest-le [] = zero-le
-  largest-le (w ∷ ws) = max-le (le-of-suc-le-suc (mod-lt (w / hid f) (zero-lt-suc (ones f)))) (largest-le ws)
 
   -- without special patterns it is below 255, and e at most 255
   pub largest-lt : (ws : List ℕ) → anySpecial f ws ≡ false → largestField f ws < ones f

@@ -43,10 +43,6 @@ plane-bound N n bs e h =
     let d : n + length (drop n bs) ≡ N = omega (arith, length-drop n bs) in
     omega (arith, length-append (take n bs) (test (drop n bs)), test-bound (drop n bs))
 
--- n stays at most N
-pub next-bound : (n : ℕ) (bs : List Bool) → n ≤ length bs → planeNext n bs ≤ length bs
-next-bound n bs h = plane-bound (length bs) n bs refl h .1
-
 -- planes of N places each
 abbrev pub Wide : ℕ → List (List Bool) → Type 0
 Wide N [] = Unit {0}

@@ -13,9 +13,6 @@ pub end-none : (bs : List Bool) → any bs ≡ false → onesEnd bs ≡ 0
 end-none [] e = refl
 end-none (b ∷ bs) e = rw e
 
-pub end-some : (b : Bool) (bs : List Bool) → any (b ∷ bs) ≡ true → onesEnd (b ∷ bs) ≡ suc (onesEnd bs)
-end-some b bs e = rw e
-
 pub end-le : (bs : List Bool) → onesEnd bs ≤ length bs
 end-le [] = omega arith
 end-le (b ∷ bs) = go (any (b ∷ bs)) (end-le bs)
