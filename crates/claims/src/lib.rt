@@ -16,5 +16,5 @@ pub fn planes_there_and_back(size: u32, words: &[u64], p: u32, buf: &mut [u8], b
 {
     let end = buf.len() * 8;
     planes::writer::put_planes(size, words, p, buf, bits::Cursor { at: 0 }, end);
-    planes::reader::read_planes(size, buf, 0, end, back, p);
+    plane_reader::read_planes(size, buf, 0, end, back, p);
 }

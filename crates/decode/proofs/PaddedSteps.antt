@@ -12,7 +12,7 @@ use lib.Seq.{slice, drop-cons}
 use Rattle.bits.specs.Stream.{numberOf, noOnes}
 use Rattle.bits.proofs.StreamLaws.{slice-first, slice-rest}
 use Rattle.planes.specs.Reader.{readWords}
-use Rattle.planes.specs.Whole.{PlanesRead}
+use Rattle.plane_reader.specs.Calls.{PlanesRead}
 use Rattle.words.specs.Word.{flip}
 use Rattle.floats.specs.Pattern.{wordSize, fieldBits}
 use Rattle.floats.specs.Integer.{toInteger, toPattern}

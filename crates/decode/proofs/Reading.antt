@@ -9,7 +9,7 @@ use lib.ListN.{length, getD, replicate}
 use lib.Seq.{slice}
 use Rattle.bits.specs.Stream.{noOnes}
 use Rattle.words.specs.Word.{flip}
-use Rattle.planes.proofs.Reading.{slice-here}
+use Rattle.plane_reader.proofs.Reading.{slice-here}
 use Rattle.floats.specs.Pattern.{wordSize}
 use Rattle.codec.specs.Padded.{paddedMultiples, paddedFlipped, paddedFloats}
 use Rattle.codec.specs.Read.{readIntegers, scaledBy, readExactFloats, readLossyFloats}

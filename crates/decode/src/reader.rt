@@ -22,7 +22,7 @@ use codec::change::copy;
 use codec::change::scratch;
 use codec::writer::count_bits;
 use codec::writer::field_bits;
-use planes::reader::clear;
+use plane_reader::clear;
 
 // Coefficients, by mode: p planes, or as many as the head says.
 fn read_coefficients(
@@ -41,10 +41,10 @@ fn read_coefficients(
     if exact {
         let head = count_bits(size);
         let count = bits::get_number(buf, at, head) + 1;
-        let read = planes::reader::read_planes(size, buf, at + head, end, us, count);
+        let read = plane_reader::read_planes(size, buf, at + head, end, us, count);
         ends(size, count, us, buf, read, end)
     } else {
-        planes::reader::read_planes(size, buf, at, end, us, p);
+        plane_reader::read_planes(size, buf, at, end, us, p);
         true
     }
 }

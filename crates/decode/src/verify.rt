@@ -13,7 +13,7 @@ ghost use Rattle.floats.specs.Pattern.{formatOf, exponentField};
 ghost use Rattle.floats.specs.Integer.{toInteger, toPattern};
 ghost use Rattle.floats.specs.Block.{blockExponent, allZero, allWhole};
 ghost use Rattle.codec.specs.Padded.{smallest, sameWords, multiples};
-use planes::reader::Planes;
+use plane_reader::Planes;
 
 // Whether p planes are the fewest that these coefficients of `size` bits need.
 fn smallest(size: u32, p: u32, us: &[u64]) -> bool

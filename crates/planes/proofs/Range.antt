@@ -6,9 +6,9 @@ use Prim.Native.Nat.{ℕ, zero, suc, _-_, _*_, _^_, _≤_}
 use native.Mathlib.Omega.{arith}
 use native.Mathlib.Nat.{pow-suc, sub-zero}
 use lib.Pow.{pow-pos, pow-mono}
-use lib.ListN.{length, replicate, length-replicate}
+use lib.ListN.{length, drop, replicate, length-replicate}
 use Rattle.bits.specs.Stream.{digit}
-use Rattle.planes.specs.Reader.{readPlane, readNext, addPlane, readFrom, readWords, Room}
+use Rattle.planes.specs.Reader.{readTest, readScan, readPlane, readNext, addPlane, readFrom, readWords, Room}
 use Rattle.planes.proofs.Words.{Below}
 
 -- the number of words
@@ -60,3 +60,24 @@ from-room w (suc v) (suc p) n ws s h r =
 pub read-below : (w N p : ℕ) (s : List Bool) → p ≤ w → Below w (readWords w N p s)
 unfolding readWords
 read-below w N p s h = room-below w (w - p) (readFrom w p 0 (replicate N 0) s) (from-room w w p 0 (replicate N 0) s h (room-none w w N (omega arith)))
+
+-- how many places n moves past
+mutual
+  pub test-moves : (s : List Bool) (r : ℕ) → length (readTest s r .bits) ≤ r
+  test-moves [] zero = omega arith
+  test-moves [] (suc r) = omega arith
+  test-moves (b ∷ s) zero = omega arith
+  test-moves (false ∷ s) (suc r) = omega arith
+  test-moves (true ∷ s) (suc r) = scan-moves s r
+
+  pub scan-moves : (s : List Bool) (r : ℕ) → length (readScan s r .bits) ≤ suc r
+  scan-moves [] zero = omega arith
+  scan-moves (b ∷ s) zero = omega arith
+  scan-moves [] (suc r) = omega arith
+  scan-moves (false ∷ s) (suc r) = let h = scan-moves s r in omega arith
+  scan-moves (true ∷ s) (suc r) = let h = test-moves s (suc r) in omega arith
+
+-- the n that a plane hands on stays at most N
+pub next-le : (N n : ℕ) (s : List Bool) → n ≤ N → readNext N n s ≤ N
+unfolding readNext
+next-le N n s h = omega (arith, test-moves (drop n s) (N - n))

@@ -1,3 +1,2 @@
-// The bit planes of blocks of words of up to 64 bits, coded and read.
-pub mod reader;
+// The bit planes of blocks of words of up to 64 bits, coded.
 pub mod writer;

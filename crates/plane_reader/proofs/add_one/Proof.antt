@@ -1,7 +1,7 @@
 -- One store, of the word with 2 ^ k added. Assumes nothing.
 use borrow.Author.Needs.{needs}
-use Rattle.planes.proofs.reader.add_one.Statement.{statement}
-use Rattle.planes.proofs.reader.add_one.Tie as tie
+use Rattle.plane_reader.proofs.add_one.Statement.{statement}
+use Rattle.plane_reader.proofs.add_one.Tie as tie
 
 mul-words : tie.Need-mul-words
 mul-words c = search needs

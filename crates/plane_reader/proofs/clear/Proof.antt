@@ -6,8 +6,8 @@ use native.Mathlib.Omega.{arith}
 use Prim.Native.Nat.{_≤_, _-_}
 use mathlib.Core.List.{_++_, append-nil}
 use mathlib.Core.Path.{_≡_, refl, _∙_}
-use Rattle.planes.proofs.reader.clear.Statement.{statement}
-use Rattle.planes.proofs.reader.clear.Tie as tie
+use Rattle.plane_reader.proofs.clear.Statement.{statement}
+use Rattle.plane_reader.proofs.clear.Tie as tie
 
 abbrev Inv-loop : tie.InvT-loop
 Inv-loop words₀ i₀ words i = (i ≤ length words₀) × (length words ≡ length words₀) × (words ≡ replicate i 0 ++ drop i words₀)

@@ -1,11 +1,11 @@
 -- A bit, or past the budget nothing. Assumes nothing.
-use Rattle.planes.proofs.Reading.{room-here, bit-here, bit-cut}
+use Rattle.plane_reader.proofs.Reading.{room-here, bit-here, bit-cut}
 use Rattle.bits.proofs.StreamLaws.{length-bitsOf}
 use Rattle.bits.specs.Stream.{bitsOf}
 use native.Mathlib.Omega.{arith}
 use borrow.Author.Needs.{needs}
-use Rattle.planes.proofs.reader.read_bit.Statement.{statement}
-use Rattle.planes.proofs.reader.read_bit.Tie as tie
+use Rattle.plane_reader.proofs.read_bit.Statement.{statement}
+use Rattle.plane_reader.proofs.read_bit.Tie as tie
 
 get-requires : tie.Need-get-requires
 get-requires c κs = search needs

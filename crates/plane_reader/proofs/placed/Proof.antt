@@ -4,8 +4,8 @@ use lib.Pow.{pow-lt}
 use native.Mathlib.Nat.{lt-of-le-of-lt}
 use Prim.Native.Nat.{_^_}
 use borrow.Author.Needs.{needs}
-use Rattle.planes.proofs.reader.placed.Statement.{statement}
-use Rattle.planes.proofs.reader.placed.Tie as tie
+use Rattle.plane_reader.proofs.placed.Statement.{statement}
+use Rattle.plane_reader.proofs.placed.Tie as tie
 
 wide-requires : tie.Need-wide-requires
 wide-requires c κs = search needs

@@ -1,7 +1,7 @@
 -- The invariant: the first bits that are left, added from here, give what all of them give from the start. Assumes nothing.
 use borrow.Author.Needs.{needs}
-use Rattle.planes.proofs.Reading.{add-none, verbatim-more, room-bit}
+use Rattle.plane_reader.proofs.Reading.{add-none, verbatim-more, room-bit}
 use Rattle.planes.specs.Reader.{addAt, Room}
 use Rattle.bits.specs.Stream.{bitsOf}
 use lib.Seq.{slice}
 use lib.ListN.{length, take, drop}
@@ -9,8 +9,8 @@ use native.Mathlib.Omega.{arith}
 use native.Mathlib.Nat.{sub-zero}
 use Prim.Native.Nat.{suc, _≤_, _<_, _-_, _+_}
 use mathlib.Core.Path.{_≡_, refl, sym, _∙_}
-use Rattle.planes.proofs.reader.read_verbatim.Statement.{statement}
-use Rattle.planes.proofs.reader.read_verbatim.Tie as tie
+use Rattle.plane_reader.proofs.read_verbatim.Statement.{statement}
+use Rattle.plane_reader.proofs.read_verbatim.Tie as tie
 
 abbrev Inv-loop : tie.InvT-loop
 Inv-loop buf at end words₀ k n next₀ i₀ words next i =

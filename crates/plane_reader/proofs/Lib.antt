@@ -1,0 +1,2 @@
+-- The laws of reading planes, as the code goes.
+pub mod Reading
