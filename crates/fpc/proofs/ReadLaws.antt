@@ -1,6 +1,6 @@
 -- Reading the rest of a stream from where it stands gives what reading the whole stream from the start gives. Assumes nothing.
-use mathlib.Core.Path.{_≡_, refl, ap, ap₂, _∙_}
-use mathlib.Core.Bool.{true, false, cond}
+use mathlib.Core.Path.{_≡_, refl, sym, ap, ap₂, _∙_}
+use mathlib.Core.Bool.{Bool, true, false, cond}
 use mathlib.Core.List.{List, [], _∷_}
 use mathlib.Core.Option.{Option, none, some, Option·map}
 use Prim.Native.Nat.{ℕ, zero, suc, _+_, _-_, _/_, _%_, _≤_, _<_}
@@ -13,10 +13,10 @@ use Rattle.steps.specs.declared.Place.{Place}
 use Rattle.fpc.specs.declared.Reply.{Reply}
 use Rattle.predict.specs.declared.Step.{Step}
 use Rattle.predict.specs.declared.Step.the-variants.{Double, Bad}
-use Rattle.predict.specs.Predictors.{Predictors, start, update, after, Tables}
+use Rattle.predict.specs.Predictors.{Predictors, start, fcm, dfcm, update, after, Tables}
 use Rattle.predict.specs.Stream.{tableF, tableD}
-use Rattle.predict.specs.Reading.{oddEnd, doubleThen, pairThen, readPairs, mostDoubles, read}
-use Rattle.steps.specs.Calls.{Within, predictors, Stepped}
+use Rattle.predict.specs.Reading.{Found, answerOf, stepOf, oddEnd, andThen, readPairs, mostDoubles, read}
+use Rattle.steps.specs.Calls.{Within, predictors, stepAnswer}
 use Rattle.fpc.specs.Calls.{RanAs}
 use Rattle.steps.proofs.WriteLaws.{start-is, start-within, same-size, within-next}
 use Rattle.steps.proofs.StepBounds.{bad, onward}
@@ -72,7 +72,21 @@ pub record Reading (size : ℕ) (bytes out₀ f d : List ℕ) (p : Place) (out :
 
 -- what is left of a pair whose first double was read
 abbrev pub secondLeft : ℕ → Predictors → ℕ → List ℕ → ℕ → Option (List ℕ)
-secondLeft size s lo bytes k = cond (oddEnd lo bytes) (some []) (doubleThen size s lo bytes (readPairs size k))
+secondLeft size s lo bytes k =
+    cond (oddEnd lo bytes) (some [])
+    (andThen (stepOf (fcm s) (dfcm s) lo bytes) (λ y. Option·map (λ vs. y .double ∷ vs) (readPairs size k (update size s (y .double)) (drop (y .next) bytes))))
+
+-- a pair is its first double and what is left of it
+first-of : (v : ℕ) (odd : Bool) (o : Option Found) (more : Found → Option (List ℕ))
+    → cond odd (some (v ∷ [])) (andThen o (λ y. Option·map (λ vs. v ∷ y .double ∷ vs) (more y)))
+    ≡ Option·map (λ vs. v ∷ vs) (cond odd (some []) (andThen o (λ y. Option·map (λ vs. y .double ∷ vs) (more y))))
+first-of v true o more = refl
+first-of v false none more = refl
+first-of v false (some y) more = go (more y)
+  where
+    go : (m : Option (List ℕ)) → Option·map (λ (vs : List ℕ). v ∷ y .double ∷ vs) m ≡ Option·map (λ vs. v ∷ vs) (Option·map (λ vs. y .double ∷ vs) m)
+    go none = refl
+    go (some vs) = refl
 
 -- where the reader stands after the first double of a pair; n doubles came before the pair
 pub record Halfway (size : ℕ) (bytes out₀ f d : List ℕ) (p : Place) (out : List ℕ) (lo at n : ℕ) : Type 0 where
@@ -127,34 +141,33 @@ module _ (size : ℕ) (bytes out₀ f d : List ℕ) (p : Place) (out : List ℕ)
       one-more : pairsLeft n ≡ suc (pairsLeft (n + 2))
       one-more = omega (arith, w .pairs, w .most, room-left)
 
-      pair-left : tookFrom size (predictors f d p) out n (pairThen size (predictors f d p) (b / 16) (b % 16) (drop (at + 1) bytes) (readPairs size (pairsLeft (n + 2))))
+      pair-left : tookFrom size (predictors f d p) out n (readPairs size (suc (pairsLeft (n + 2))) (predictors f d p) (b ∷ drop (at + 1) bytes))
           ≡ tookFrom size (start size) out₀ 0 (read size bytes)
       pair-left = rw (first-byte, one-more, ← eb) at (w .left)
 
-      module _ (r : Step) (st : Stepped (predictors f d p) (b / 16) (drop (at + 1) bytes) (at + 1) r) where
-        second : Predictors → List ℕ → Option (List ℕ)
-        second s rest = secondLeft size s (b % 16) rest (pairsLeft (n + 2))
-
+      module _ (r : Step) (st : answerOf r ≡ stepAnswer (predictors f d p) (b / 16) (drop (at + 1) bytes) (at + 1)) where
         -- no double
         pub first-bad : r ≡ Bad → (reply : Reply) → reply .answer ≡ 23 → reply .count ≡ 0 → RanAs size out₀ (read size bytes) reply out f d
-        unfolding second
         first-bad e reply ea ec =
-            ran-not size out₀ (read size bytes) out f d (rw (bad size (predictors f d p) (b / 16) bytes (at + 1) r st e second) at pair-left) reply ea ec
+            ran-not size out₀ (read size bytes) out f d (rw (bad (predictors f d p) (b / 16) bytes (at + 1) r st e) at pair-left) reply ea ec
 
         -- the first double of the pair
         pub first-double : (v next : ℕ) → r ≡ Double v next → (f′ d′ : List ℕ) (q : Place) → predictors f′ d′ q ≡ update (length f) (predictors f d p) v → (out′ : List ℕ) → out′ ≡ set out n v
             → Halfway size bytes out₀ f′ d′ q out′ (b % 16) next n
-        unfolding second
         first-double v next e f′ d′ q es out′ eo =
             let s = predictors f d p in
-            let on = onward size s (b / 16) bytes (at + 1) r st (omega arith) v next e in
-            let es′ : predictors f′ d′ q ≡ update size s v = es ∙ rw (w .sized) in
-            let e₁ = rw (on .then second) at pair-left in
+            let on = onward s (b / 16) bytes (at + 1) r st (omega arith) v next e in
+            let s′ = update size s v in
+            let es′ : predictors f′ d′ q ≡ s′ = es ∙ rw (w .sized) in
+            let k = pairsLeft (n + 2) in
+            let more = first-of v (oddEnd (b % 16) (drop next bytes)) (stepOf (fcm s′) (dfcm s′) (b % 16) (drop next bytes))
+                (λ y. readPairs size k (update size s′ (y .double)) (drop (y .next) (drop next bytes))) in
             record {
               left =
-                  ap₂ (λ (x : Predictors) (y : List ℕ). tookFrom size x y (n + 1) (second x (drop next bytes))) es′ eo
-                  ∙ took-one size s out n v (second (update size s v) (drop next bytes))
-                  ∙ e₁;
+                  ap₂ (λ (x : Predictors) (y : List ℕ). tookFrom size x y (n + 1) (secondLeft size x (b % 16) (drop next bytes) k)) es′ eo
+                  ∙ took-one size s out n v (secondLeft size s′ (b % 16) (drop next bytes) k)
+                  ∙ ap (tookFrom size s out n) (sym more)
+                  ∙ rw (on .found, on .left) at pair-left;
               within = within-next f d p (w .within) v f′ d′ q es;
               sized = same-size f d p (w .within) v f′ d′ q es ∙ w .sized;
               room = ap length eo ∙ length-set out n v ∙ w .room;
@@ -170,20 +183,23 @@ module _ (size : ℕ) (bytes out₀ f d : List ℕ) (p : Place) (out : List ℕ)
       let a : n + 1 + 0 ≡ n + 1 = add-zero (n + 1) in
       ran-as size out₀ (read size bytes) (n + 1) out f d (rw (e, a) at (w .left)) r ea ec
 
-  module _ (even : oddEnd lo (drop at bytes) ≡ false) (r : Step) (st : Stepped (predictors f d p) lo (drop at bytes) at r) where
-    double-left : tookFrom size (predictors f d p) out (n + 1) (doubleThen size (predictors f d p) lo (drop at bytes) (readPairs size (pairsLeft (n + 2)))) ≡ tookFrom size (start size) out₀ 0 (read size bytes)
+  module _ (even : oddEnd lo (drop at bytes) ≡ false) (r : Step) (st : answerOf r ≡ stepAnswer (predictors f d p) lo (drop at bytes) at) where
+    double-left : tookFrom size (predictors f d p) out (n + 1)
+        (andThen (stepOf (fcm (predictors f d p)) (dfcm (predictors f d p)) lo (drop at bytes)) (λ y.
+        Option·map (λ vs. y .double ∷ vs) (readPairs size (pairsLeft (n + 2)) (update size (predictors f d p) (y .double)) (drop (y .next) (drop at bytes)))))
+        ≡ tookFrom size (start size) out₀ 0 (read size bytes)
     double-left = rw even at (w .left)
 
     pub second-bad : r ≡ Bad → (reply : Reply) → reply .answer ≡ 23 → reply .count ≡ 0 → RanAs size out₀ (read size bytes) reply out f d
     second-bad e reply ea ec =
-        ran-not size out₀ (read size bytes) out f d (rw (bad size (predictors f d p) lo bytes at r st e (readPairs size (pairsLeft (n + 2)))) at double-left) reply ea ec
+        ran-not size out₀ (read size bytes) out f d (rw (bad (predictors f d p) lo bytes at r st e) at double-left) reply ea ec
 
     -- the second double, and the pair is whole
     pub second-double : (v next : ℕ) → r ≡ Double v next → (f′ d′ : List ℕ) (q : Place) → predictors f′ d′ q ≡ update (length f) (predictors f d p) v → (out′ : List ℕ) → out′ ≡ set out (n + 1) v
         → Reading size bytes out₀ f′ d′ q out′ next (n + 2)
     second-double v next e f′ d′ q es out′ eo =
         let s = predictors f d p in
-        let on = onward size s lo bytes at r st (w .inside) v next e in
+        let on = onward s lo bytes at r st (w .inside) v next e in
         let es′ : predictors f′ d′ q ≡ update size s v = es ∙ rw (w .sized) in
         let more = readPairs size (pairsLeft (n + 2)) in
         let two : n + 2 ≡ n + 1 + 1 = omega arith in
@@ -192,7 +208,7 @@ module _ (size : ℕ) (bytes out₀ f d : List ℕ) (p : Place) (out : List ℕ)
               ap₂ (λ (x : Predictors) (y : List ℕ). tookFrom size x y (n + 2) (more x (drop next bytes))) es′ eo
               ∙ ap (λ (m : ℕ). tookFrom size (update size s v) (set out (n + 1) v) m (more (update size s v) (drop next bytes))) two
               ∙ took-one size s out (n + 1) v (more (update size s v) (drop next bytes))
-              ∙ rw (on .then more) at double-left;
+              ∙ rw (on .found, on .left) at double-left;
           within = within-next f d p (w .within) v f′ d′ q es;
           sized = same-size f d p (w .within) v f′ d′ q es ∙ w .sized;
           room = ap length eo ∙ length-set out (n + 1) v ∙ w .room;

@@ -3,17 +3,15 @@ use mathlib.Core.Path.{_≡_, refl, sym, ap, ap₂}
 use mathlib.Core.Bool.{Bool, true, false, cond, _&&_, and-eq-true-iff}
 use mathlib.Core.List.{List, [], _∷_, _++_, append-assoc}
 use mathlib.Core.Logic.{_↔_}
-use mathlib.Core.Option.{Option, none, some, map-eq-some-iff}
+use mathlib.Core.Option.{Option, none, some, Option·map, map-eq-some-iff}
 use Prim.Native.Nat.{ℕ, zero, suc, _+_, _*_, _/_, _%_, _^_, _≤_, _<_}
 use native.Mathlib.Omega.{arith}
 use lib.Dec.{eqb, lit<}
 use lib.ListN.{length, drop, getD}
 use borrow.Author.Tests.{eqb-true}
-use Rattle.predict.specs.declared.Step.{Step}
-use Rattle.predict.specs.declared.Step.the-variants.{Double, Bad}
 use Rattle.predict.specs.Predictors.{Predictors, start, fcm, dfcm, update, AllBelow}
 use Rattle.predict.specs.Stream.{half, rest, oddHalf, oddByte, pairBytes, oddBytes, streamFrom, stream}
-use Rattle.predict.specs.Reading.{stepOf, oddEnd, stepThen, doubleThen, pairThen, readPairs, read, mostDoubles}
+use Rattle.predict.specs.Reading.{Found, stepOf, oddEnd, andThen, readPairs, read, mostDoubles}
 use Rattle.predict.proofs.ByteLaws.{drop-below}
 use Rattle.predict.proofs.StepLaws.{Read, step-back}
 use Rattle.predict.proofs.Sound.{Sound, sound-start, sound-update, fcm-lt, dfcm-lt}
@@ -25,14 +23,15 @@ pub record Streamed (size k : ℕ) (s : Predictors) (bytes vs : List ℕ) : Type
   pub doubles : AllBelow (2 ^ 64) vs
   pub most : length vs ≤ 2 * k
 
--- a double that was read, and what was read after it
-pub record First (size : ℕ) (s : Predictors) (half : ℕ) (bytes : List ℕ) (more : Predictors → List ℕ → Option (List ℕ)) (vs : List ℕ) : Type 0 where
-  pub v : ℕ
-  pub n : ℕ
-  pub others : List ℕ
-  pub run : vs ≡ v ∷ others
-  pub taken : Read (fcm s) (dfcm s) half bytes v n
-  pub then : more (update size s v) (drop n bytes) ≡ some others
+-- what was read, where something was read after it
+pub record First {A B : Type 0} (o : Option A) (more : A → Option B) (y : B) : Type 0 where
+  pub x : A
+  pub found : o ≡ some x
+  pub then : more x ≡ some y
+
+first : {A B : Type 0} (o : Option A) (more : A → Option B) (y : B) → andThen o more ≡ some y → First o more y
+first none more y e = absurd (let z : _≡_ {A = ℕ} 0 1 = cc in omega arith)
+first (some x) more y e = record { x = x; found = refl; then = e }
 
 cons-below : (n v : ℕ) (vs : List ℕ) → v < n → AllBelow n vs → AllBelow n (v ∷ vs)
 cons-below n v vs hv h zero = hv
@@ -40,17 +39,6 @@ cons-below n v vs hv h (suc i) = h i
 
 nil-below : (n : ℕ) → 0 < n → AllBelow n []
 nil-below n h i = h
-
-module _ (size : ℕ) (s : Predictors) (sound : Sound s) where
-  double-back : (half : ℕ) (bytes : List ℕ) → AllBelow 256 bytes → (more : Predictors → List ℕ → Option (List ℕ)) (vs : List ℕ)
-      → doubleThen size s half bytes more ≡ some vs → First size s half bytes more vs
-  double-back half bytes hb more vs e = go (stepOf (fcm s) (dfcm s) half bytes) refl e
-    where
-      go : (r : Step) → stepOf (fcm s) (dfcm s) half bytes ≡ r → stepThen size s bytes more r ≡ some vs → First size s half bytes more vs
-      go (Double v n) p q =
-          let m = map-eq-some-iff (λ (ws : List ℕ). v ∷ ws) (more (update size s v) (drop n bytes)) .0 q in
-          record { v = v; n = n; others = m .0; run = sym (m .2); taken = step-back (fcm s) (dfcm s) half bytes (fcm-lt s sound) (dfcm-lt s) hb v n p; then = m .1 }
-      go Bad p q = absurd (let z : _≡_ {A = ℕ} 0 1 = cc in omega arith)
 
 -- the odd end is half byte 6 and one byte, 00
 odd-back : (half : ℕ) (bytes : List ℕ) → oddEnd half bytes ≡ true → (half ≡ oddHalf) × (bytes ≡ oddByte ∷ [])
@@ -65,45 +53,67 @@ odd-back half bytes e =
     single (x ∷ y ∷ l) p q = absurd (omega arith)
 
 -- a pair that was read is coded so, if what was read after it is
-module _ (size k : ℕ) (s : Predictors) (sound : Sound s) (b : ℕ) (bytes : List ℕ) (hb : AllBelow 256 bytes) (more : Predictors → List ℕ → Option (List ℕ))
-    (ih : (s′ : Predictors) (bytes′ vs′ : List ℕ) → Sound s′ → AllBelow 256 bytes′ → more s′ bytes′ ≡ some vs′ → Streamed size k s′ bytes′ vs′) where
+module _ (size k : ℕ) (s : Predictors) (sound : Sound s) (b : ℕ) (bytes : List ℕ) (hb : AllBelow 256 bytes) where
   halves : 16 * (b / 16) + b % 16 ≡ b
   halves = omega arith
 
-  module _ (v n : ℕ) (taken : Read (fcm s) (dfcm s) (b / 16) bytes v n) where
-    one-back : oddEnd (b % 16) (drop n bytes) ≡ true → Streamed size (suc k) s (b ∷ bytes) (v ∷ [])
+  module _ (x : Found) (taken : Read (fcm s) (dfcm s) (b / 16) bytes x) where
+    -- the predictors and the bytes after the first double
+    abbrev s′ : Predictors
+    s′ = update size s (x .double)
+
+    abbrev bytes′ : List ℕ
+    bytes′ = drop (x .next) bytes
+
+    sound′ : Sound s′
+    sound′ = sound-update size s (x .double) (taken .double) sound
+
+    below′ : AllBelow 256 bytes′
+    below′ = drop-below 256 (x .next) bytes hb
+
+    one-back : oddEnd (b % 16) bytes′ ≡ true → Streamed size (suc k) s (b ∷ bytes) (x .double ∷ [])
     unfolding oddBytes
     one-back e =
-        let o = odd-back (b % 16) (drop n bytes) e in
-        let p : 16 * half s v + oddHalf ≡ b = rw (← taken .same-half) (omega (arith, o .0)) in
-        let q : rest s v ++ oddByte ∷ [] ≡ bytes = rw (← o .1) (sym (taken .same-bytes)) in
-        record { same = ap₂ (λ (x : ℕ) (xs : List ℕ). x ∷ xs) p q; doubles = cons-below (2 ^ 64) v [] (taken .double) (nil-below (2 ^ 64) (lit< tt)); most = omega arith }
-
-    two-back : (others : List ℕ) → First size (update size s v) (b % 16) (drop n bytes) more others → Streamed size (suc k) s (b ∷ bytes) (v ∷ others)
-    unfolding pairBytes
-    two-back others t =
-        let s′ = update size s v in
-        let sound′ : Sound s′ = sound-update size s v (taken .double) sound in
-        let r = ih (update size s′ (t .v)) (drop (t .n) (drop n bytes)) (t .others) (sound-update size s′ (t .v) (t .taken .double) sound′) (drop-below 256 (t .n) (drop n bytes) (drop-below 256 n bytes hb)) (t .then) in
-        let p : 16 * half s v + half s′ (t .v) ≡ b = rw (← taken .same-half, ← t .taken .same-half) halves in
-        let q : (rest s v ++ rest s′ (t .v)) ++ streamFrom size (update size s′ (t .v)) (t .others) ≡ bytes = rw (append-assoc (rest s v) (rest s′ (t .v)) (streamFrom size (update size s′ (t .v)) (t .others)), r .same, ← t .taken .same-bytes) (sym (taken .same-bytes)) in
-        rw (t .run)
-        (record {
+        let o = odd-back (b % 16) bytes′ e in
+        let p : 16 * half s (x .double) + oddHalf ≡ b = rw (← taken .same-half) (omega (arith, o .0)) in
+        let q : rest s (x .double) ++ oddByte ∷ [] ≡ bytes = rw (← o .1) (sym (taken .same-bytes)) in
+        record {
           same = ap₂ (λ (x : ℕ) (xs : List ℕ). x ∷ xs) p q;
-          doubles = cons-below (2 ^ 64) v (t .v ∷ t .others) (taken .double) (cons-below (2 ^ 64) (t .v) (t .others) (t .taken .double) (r .doubles));
+          doubles = cons-below (2 ^ 64) (x .double) [] (taken .double) (nil-below (2 ^ 64) (lit< tt));
+          most = omega arith;
+        }
+
+    two-back : (y : Found) → Read (fcm s′) (dfcm s′) (b % 16) bytes′ y → (vs : List ℕ)
+        → Streamed size k (update size s′ (y .double)) (drop (y .next) bytes′) vs → Streamed size (suc k) s (b ∷ bytes) (x .double ∷ y .double ∷ vs)
+    unfolding pairBytes
+    two-back y taken′ vs r =
+        let v = x .double in
+        let w = y .double in
+        let p : 16 * half s v + half s′ w ≡ b = rw (← taken .same-half, ← taken′ .same-half) halves in
+        let q : (rest s v ++ rest s′ w) ++ streamFrom size (update size s′ w) vs ≡ bytes =
+            rw (append-assoc (rest s v) (rest s′ w) (streamFrom size (update size s′ w) vs), r .same, ← taken′ .same-bytes) (sym (taken .same-bytes)) in
+        record {
+          same = ap₂ (λ (x : ℕ) (xs : List ℕ). x ∷ xs) p q;
+          doubles = cons-below (2 ^ 64) v (w ∷ vs) (taken .double) (cons-below (2 ^ 64) w vs (taken′ .double) (r .doubles));
           most = omega (arith, r .most);
-        })
+        }
 
-    second-back : (others : List ℕ) (o : Bool) → oddEnd (b % 16) (drop n bytes) ≡ o
-        → cond o (some []) (doubleThen size (update size s v) (b % 16) (drop n bytes) more) ≡ some others → Streamed size (suc k) s (b ∷ bytes) (v ∷ others)
-    second-back others true e q = let z : others ≡ [] = cc in rw z (one-back e)
-    second-back others false e q =
-        two-back others (double-back size (update size s v) (sound-update size s v (taken .double) sound) (b % 16) (drop n bytes) (drop-below 256 n bytes hb) more others q)
-
-  pair-back : (vs : List ℕ) → pairThen size s (b / 16) (b % 16) bytes more ≡ some vs → Streamed size (suc k) s (b ∷ bytes) vs
-  pair-back vs e =
-      let t = double-back size s sound (b / 16) bytes hb (λ s′ bytes′. cond (oddEnd (b % 16) bytes′) (some []) (doubleThen size s′ (b % 16) bytes′ more)) vs e in
-      rw (t .run) (second-back (t .v) (t .n) (t .taken) (t .others) (oddEnd (b % 16) (drop (t .n) bytes)) refl (t .then))
+    -- and so is the pair with what was read after it
+    module _ (more : Predictors → List ℕ → Option (List ℕ))
+        (ih : (s″ : Predictors) (bytes″ vs : List ℕ) → Sound s″ → AllBelow 256 bytes″ → more s″ bytes″ ≡ some vs → Streamed size k s″ bytes″ vs) where
+      second-back : (vs : List ℕ) (o : Bool) → oddEnd (b % 16) bytes′ ≡ o
+          → cond o (some (x .double ∷ []))
+          (andThen (stepOf (fcm s′) (dfcm s′) (b % 16) bytes′) (λ y. Option·map (λ ws. x .double ∷ y .double ∷ ws) (more (update size s′ (y .double)) (drop (y .next) bytes′))))
+          ≡ some vs
+          → Streamed size (suc k) s (b ∷ bytes) vs
+      second-back vs true e q = let z : vs ≡ x .double ∷ [] = cc in rw z (one-back e)
+      second-back vs false e q =
+          let t = first (stepOf (fcm s′) (dfcm s′) (b % 16) bytes′) _ vs q in
+          let y = t .x in
+          let taken′ = step-back (fcm s′) (dfcm s′) (b % 16) bytes′ (fcm-lt s′ sound′) (dfcm-lt s′) below′ y (t .found) in
+          let m = map-eq-some-iff (λ (ws : List ℕ). x .double ∷ y .double ∷ ws) (more (update size s′ (y .double)) (drop (y .next) bytes′)) .0 (t .then) in
+          let sound″ = sound-update size s′ (y .double) (taken′ .double) sound′ in
+          rw (← m .2) (two-back y taken′ (m .0) (ih (update size s′ (y .double)) (drop (y .next) bytes′) (m .0) sound″ (drop-below 256 (y .next) bytes′ below′) (m .1)))
 
 empty-streamed : (size k : ℕ) (s : Predictors) (vs : List ℕ) → _≡_ {A = Option (List ℕ)} (some []) (some vs) → Streamed size k s [] vs
 empty-streamed size k s vs e =
@@ -115,7 +125,10 @@ pairs-back size zero s [] vs sound h e = empty-streamed size zero s vs e
 pairs-back size zero s (b ∷ bytes) vs sound h e = absurd (let z : _≡_ {A = ℕ} 0 1 = cc in omega arith)
 pairs-back size (suc k) s [] vs sound h e = empty-streamed size (suc k) s vs e
 pairs-back size (suc k) s (b ∷ bytes) vs sound h e =
-    pair-back size k s sound b bytes (λ i. h (suc i)) (readPairs size k) (λ s′ bytes′ vs′ sound′ h′ e′. pairs-back size k s′ bytes′ vs′ sound′ h′ e′) vs e
+    let i : AllBelow 256 bytes = λ j. h (suc j) in
+    let t = first (stepOf (fcm s) (dfcm s) (b / 16) bytes) _ vs e in
+    let taken = step-back (fcm s) (dfcm s) (b / 16) bytes (fcm-lt s sound) (dfcm-lt s) i (t .x) (t .found) in
+    second-back size k s sound b bytes i (t .x) taken (readPairs size k) (λ s″ bytes″ ws sound″ h″ e″. pairs-back size k s″ bytes″ ws sound″ h″ e″) vs _ refl (t .then)
 
 -- the bytes are the defined stream of the run vs of at most 4,096 doubles
 pub record IsStream (size : ℕ) (bytes vs : List ℕ) : Type 0 where

@@ -2,16 +2,16 @@
 use mathlib.Core.Path.{_≡_, refl, sym, ap, _∙_}
 use mathlib.Core.Bool.{Bool, true, false, _&&_, and-eq-true-iff}
 use mathlib.Core.List.{List, [], _∷_, _++_, append-assoc}
-use mathlib.Core.Option.{Option, some, Option·map}
+use mathlib.Core.Option.{Option, some}
 use Prim.Native.Nat.{ℕ, zero, suc, _+_, _*_, _/_, _%_, _^_, _≤_, _<_}
 use native.Mathlib.Omega.{arith}
 use lib.Count.{leadingZeros}
 use lib.Dec.{eqb}
-use lib.ListN.{length, getD}
+use lib.ListN.{length, drop, getD}
 use borrow.Author.Tests.{eqb-true}
 use Rattle.predict.specs.Predictors.{Predictors, start, fcm, dfcm, update, AllBelow}
 use Rattle.predict.specs.Stream.{zeroBytes, bytesOf, code, residual, halfByte, remaining, half, rest, oddHalf, oddByte, pairBytes, oddBytes, streamFrom, stream}
-use Rattle.predict.specs.Reading.{oddEnd, doubleThen, readPairs, read, mostDoubles}
+use Rattle.predict.specs.Reading.{stepOf, oddEnd, readPairs, read, mostDoubles}
 use Rattle.predict.proofs.CodeLaws.{bytes-hold, half-lt, half-code, residual-lt}
 use Rattle.predict.proofs.StepLaws.{step-right, step-rest}
 use Rattle.predict.proofs.Sound.{Sound, sound-start, sound-update, fcm-lt, dfcm-lt}
@@ -50,13 +50,15 @@ module _ (f d v : ℕ) (tail : List ℕ) (hf : f < 2 ^ 64) (hd : d < 2 ^ 64) (hv
           let q = and-eq-true-iff (eqb (halfByte f d v) oddHalf) (eqb (length bytes) 1) .0 (p .0) in
           first-byte (sym (half-code f d v) ∙ ap (λ (x : ℕ). x % 8) (eqb-true _ _ (q .0))) (eqb-true _ _ (p .1))
 
-module _ (size : ℕ) (s : Predictors) (v : ℕ) (sound : Sound s) (hv : v < 2 ^ 64) (tail : List ℕ) where
-  -- one double of a stream, read back
-  pub double-right : (more : Predictors → List ℕ → Option (List ℕ))
-      → doubleThen size s (half s v) (rest s v ++ tail) more ≡ Option·map (λ vs. v ∷ vs) (more (update size s v) tail)
-  double-right more = rw (step-right (fcm s) (dfcm s) v tail (fcm-lt s sound) (dfcm-lt s) hv, step-rest (fcm s) (dfcm s) v tail (fcm-lt s sound) (dfcm-lt s) hv)
+module _ (s : Predictors) (v : ℕ) (sound : Sound s) (hv : v < 2 ^ 64) (tail : List ℕ) where
+  -- one double of a stream is found, and the bytes after it are left
+  double-right : stepOf (fcm s) (dfcm s) (half s v) (rest s v ++ tail) ≡ some (record { double = v; next = length (rest s v) })
+  double-right = step-right (fcm s) (dfcm s) v tail (fcm-lt s sound) (dfcm-lt s) hv
 
-  pub double-no-end : oddEnd (half s v) (rest s v ++ tail) ≡ false
+  double-rest : drop (length (rest s v)) (rest s v ++ tail) ≡ tail
+  double-rest = step-rest (fcm s) (dfcm s) v tail (fcm-lt s sound) (dfcm-lt s) hv
+
+  double-no-end : oddEnd (half s v) (rest s v ++ tail) ≡ false
   double-no-end = no-odd-end (fcm s) (dfcm s) v tail (fcm-lt s sound) (dfcm-lt s) hv
 
 -- at most 2 k doubles come back, whatever the predictors they start from
@@ -69,7 +71,7 @@ read-stream-from size zero s (v ∷ w ∷ vs) sound h l = absurd (omega arith)
 read-stream-from size (suc k) s (v ∷ []) sound h l =
     let hi : (16 * half s v + oddHalf) / 16 ≡ half s v = omega arith in
     let lo : (16 * half s v + oddHalf) % 16 ≡ oddHalf = omega arith in
-    rw (hi, lo, double-right size s v sound (h 0) (oddByte ∷ []))
+    rw (hi, lo, double-right s v sound (h 0) (oddByte ∷ []), double-rest s v sound (h 0) (oddByte ∷ []))
 read-stream-from size (suc k) s (v ∷ w ∷ vs) sound h l =
     let s′ = update size s v in
     let sound′ : Sound s′ = sound-update size s v (h 0) sound in
@@ -78,7 +80,8 @@ read-stream-from size (suc k) s (v ∷ w ∷ vs) sound h l =
     let lo : (16 * half s v + half s′ w) % 16 ≡ half s′ w = omega arith in
     let tail = streamFrom size (update size s′ w) vs in
     let ih = read-stream-from size k (update size s′ w) vs (sound-update size s′ w (h 1) sound′) (λ i. h (suc (suc i))) (omega arith) in
-    rw (append-assoc (rest s v) (rest s′ w) tail, hi, lo, double-right size s v sound (h 0) (rest s′ w ++ tail), double-no-end size s′ w sound′ (h 1) tail, double-right size s′ w sound′ (h 1) tail, ih)
+    rw (append-assoc (rest s v) (rest s′ w) tail, hi, lo, double-right s v sound (h 0) (rest s′ w ++ tail), double-rest s v sound (h 0) (rest s′ w ++ tail),
+    double-no-end s′ w sound′ (h 1) tail, double-right s′ w sound′ (h 1) tail, double-rest s′ w sound′ (h 1) tail, ih)
 
 -- the defined stream of a run of at most 4,096 doubles, read with the same table size, is that run
 pub read-stream : (size : ℕ) (vs : List ℕ) → AllBelow (2 ^ 64) vs → length vs ≤ mostDoubles → read size (stream size vs) ≡ some vs

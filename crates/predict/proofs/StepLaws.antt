@@ -2,6 +2,7 @@
 use mathlib.Core.Path.{_≡_, refl, sym, ap, _∙_, subst}
 use mathlib.Core.Bool.{Bool, true, false, cond, and-eq-true-iff}
 use mathlib.Core.List.{List, _++_}
+use mathlib.Core.Option.{Option, none, some}
 use Prim.Native.Nat.{ℕ, _/_, _%_, _^_, _≤_, _<_}
 use native.Mathlib.Nat.{lt-of-lt-of-le, pow-le-pow-right}
 use native.Mathlib.Omega.{arith}
@@ -10,11 +11,10 @@ use lib.Dec.{leb, eqb, lit<}
 use lib.ListN.{length, take, drop, length-append, take-append-drop}
 use lib.Seq.{take-at, drop-at}
 use borrow.Author.Tests.{le-leb, eq-eqb, leb-true, eqb-true}
-use Rattle.predict.specs.declared.Step.the-variants.{Double, Bad}
 use Rattle.predict.specs.Predictors.{AllBelow, side, prediction}
 use Rattle.predict.specs.Bytes.{fromBytes}
 use Rattle.predict.specs.Stream.{bytesOf, code, residual, halfByte, remaining}
-use Rattle.predict.specs.Reading.{decoded, coded, stepOf}
+use Rattle.predict.specs.Reading.{Found, decoded, coded, stepOf}
 use Rattle.words.proofs.Xors.{xor-back}
 use Rattle.predict.proofs.ByteLaws.{length-low, from-lt, from-low, low-from}
 use Rattle.predict.proofs.CodeLaws.{bytes-hold, bytes-le, half-side, half-code, residual-lt, prediction-lt}
@@ -39,36 +39,36 @@ module _ (f d v : ℕ) (tail : List ℕ) (hf : f < 2 ^ 64) (hd : d < 2 ^ 64) (hv
   fits = rw (half-code f d v) (omega (arith, length-append (remaining f d v) tail, length-remaining f d v))
 
   -- the half byte and the remaining bytes of a double give the double back, whatever follows
-  pub step-right : stepOf f d (halfByte f d v) (remaining f d v ++ tail) ≡ Double v (length (remaining f d v))
+  pub step-right : stepOf f d (halfByte f d v) (remaining f d v ++ tail) ≡ some (record { double = v; next = length (remaining f d v) })
   unfolding stepOf coded
   step-right = rw (back, le-leb _ _ fits, eq-eqb (halfByte f d v) (halfByte f d v) refl, half-code f d v, length-remaining f d v)
 
   pub step-rest : drop (length (remaining f d v)) (remaining f d v ++ tail) ≡ tail
   step-rest = drop-at (remaining f d v) tail _ refl
 
--- the tests that a step passed which gave the double v in n bytes
-pub record Accepted (f d half : ℕ) (bytes : List ℕ) (v n : ℕ) : Type 0 where
+-- the tests that a step passed which found a double
+pub record Accepted (f d half : ℕ) (bytes : List ℕ) (x : Found) : Type 0 where
   pub fits : bytesOf (half % 8) ≤ length bytes
   pub same : halfByte f d (decoded f d half bytes) ≡ half
-  pub v-is : decoded f d half bytes ≡ v
-  pub n-is : bytesOf (half % 8) ≡ n
+  pub found : record { double = decoded f d half bytes; next = bytesOf (half % 8) } ≡ x
 
-pub accepted : (f d half : ℕ) (bytes : List ℕ) (v n : ℕ) → stepOf f d half bytes ≡ Double v n → Accepted f d half bytes v n
+pub accepted : (f d half : ℕ) (bytes : List ℕ) (x : Found) → stepOf f d half bytes ≡ some x → Accepted f d half bytes x
 unfolding stepOf coded
-accepted f d half bytes v n e = go (coded f d half bytes) refl e
+accepted f d half bytes x e = go (coded f d half bytes) refl e
   where
-    go : (b : Bool) → coded f d half bytes ≡ b → cond b (Double (decoded f d half bytes) (bytesOf (half % 8))) Bad ≡ Double v n → Accepted f d half bytes v n
+    go : (b : Bool) → coded f d half bytes ≡ b → cond b (some (record { double = decoded f d half bytes; next = bytesOf (half % 8) })) none ≡ some x
+        → Accepted f d half bytes x
     go true p q =
         let t = and-eq-true-iff (leb (bytesOf (half % 8)) (length bytes)) (eqb (halfByte f d (decoded f d half bytes)) half) .0 p in
-        record { fits = leb-true _ _ (t .0); same = eqb-true _ _ (t .1); v-is = cc; n-is = cc }
+        record { fits = leb-true _ _ (t .0); same = eqb-true _ _ (t .1); found = cc }
     go false p q = absurd (let z : _≡_ {A = ℕ} 0 1 = cc in omega arith)
 
--- what a step that reads the double v in n bytes says of the bytes
-pub record Read (f d half : ℕ) (bytes : List ℕ) (v n : ℕ) : Type 0 where
-  pub same-half : half ≡ halfByte f d v
-  pub same-bytes : bytes ≡ remaining f d v ++ drop n bytes
-  pub double : v < 2 ^ 64
-  pub inside : n ≤ length bytes
+-- what a step that finds a double says of the bytes
+pub record Read (f d half : ℕ) (bytes : List ℕ) (x : Found) : Type 0 where
+  pub same-half : half ≡ halfByte f d (x .double)
+  pub same-bytes : bytes ≡ remaining f d (x .double) ++ drop (x .next) bytes
+  pub double : x .double < 2 ^ 64
+  pub inside : x .next ≤ length bytes
 
 module _ (f d half : ℕ) (bytes : List ℕ) (hf : f < 2 ^ 64) (hd : d < 2 ^ 64) (hb : AllBelow 256 bytes) where
   module _ (fit : bytesOf (half % 8) ≤ length bytes) (same : halfByte f d (decoded f d half bytes) ≡ half) where
@@ -90,8 +90,8 @@ module _ (f d half : ℕ) (bytes : List ℕ) (hf : f < 2 ^ 64) (hd : d < 2 ^ 64)
         xor-lt 64 _ _ (lt-of-lt-of-le (from-lt (bytesOf (half % 8)) bytes hb) (pow-le-pow-right {n = 256} (lit< tt) {i = bytesOf (half % 8)} {j = 8} (bytes-le (half % 8))))
         (prediction-lt f d (half / 8) (2 ^ 64) hf hd)
 
-    found : Read f d half bytes (decoded f d half bytes) (bytesOf (half % 8))
-    found =
+    read-so : Read f d half bytes (record { double = decoded f d half bytes; next = bytesOf (half % 8) })
+    read-so =
         record {
           same-half = sym same;
           same-bytes = rw remaining-is (sym (take-append-drop (bytesOf (half % 8)) bytes));
@@ -100,7 +100,7 @@ module _ (f d half : ℕ) (bytes : List ℕ) (hf : f < 2 ^ 64) (hd : d < 2 ^ 64)
         }
 
   -- a step takes only the half byte and the remaining bytes of the double that it gives
-  pub step-back : (v n : ℕ) → stepOf f d half bytes ≡ Double v n → Read f d half bytes v n
-  step-back v n e =
-      let a = accepted f d half bytes v n e in
-      subst (λ (x : ℕ). Read f d half bytes x n) (a .v-is) (subst (λ (x : ℕ). Read f d half bytes (decoded f d half bytes) x) (a .n-is) (found (a .fits) (a .same)))
+  pub step-back : (x : Found) → stepOf f d half bytes ≡ some x → Read f d half bytes x
+  step-back x e =
+      let a = accepted f d half bytes x e in
+      subst (λ (y : Found). Read f d half bytes y) (a .found) (read-so (a .fits) (a .same))

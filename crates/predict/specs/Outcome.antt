@@ -6,7 +6,7 @@ use Prim.Native.Nat.{ℕ, _^_}
 use lib.Dec.{ltb, eqb}
 use lib.ListN.{length, drop, replicate}
 use Rattle.predict.specs.Stream.{stream, tableF, tableD}
-use Rattle.predict.specs.Reading.{read, mostDoubles}
+use Rattle.predict.specs.Reading.{answered, read, mostDoubles}
 
 -- answer number, count, and what the output buffer and both tables hold at the end
 pub record Outcome : Type 0 where
@@ -57,7 +57,7 @@ writeOutcome f d doubles out =
 
 -- row 23, or the run that was read
 abbrev pub readInto : ℕ → List ℕ → Option (List ℕ) → Outcome
-readInto size doubles none = zeroed 23 0 size doubles
+readInto size doubles none = zeroed (answered {A = List ℕ} none .number) 0 size doubles
 readInto size doubles (some vs) = delivered size vs vs doubles
 
 -- the reader: rows 20, 21, 23, 22

@@ -2,7 +2,7 @@
 use mathlib.Core.Bool.{Bool, _&&_, cond}
 use mathlib.Core.List.{List, [], _∷_}
 use mathlib.Core.Option.{Option, none, some, Option·map}
-use Prim.Native.Nat.{ℕ, zero, suc, _+_, _/_, _%_}
+use Prim.Native.Nat.{ℕ, zero, suc, _/_, _%_}
 use lib.Bits.{bitXor}
 use lib.Dec.{leb, eqb}
 use lib.ListN.{length, take, drop, getD}
@@ -12,10 +12,25 @@ use Rattle.predict.specs.Bytes.{fromBytes}
 use Rattle.predict.specs.Predictors.{Predictors, start, fcm, dfcm, prediction, update}
 use Rattle.predict.specs.Stream.{bytesOf, halfByte, oddHalf, oddByte}
 
--- document 01's number for each case of a step's answer: a double that was read is 0, and bytes that no double has are 23
-abbrev pub answerOf : Step → ℕ
-answerOf (Double v n) = 0
-answerOf Bad = 23
+-- what one step of reading gives: a double, and the place after its bytes
+pub record Found : Type 0 where
+  pub double : ℕ
+  pub next : ℕ
+
+-- an answer in document 01's terms: its number, and the values that come with it
+pub record Answer (A : Type 0) : Type 0 where
+  pub number : ℕ
+  pub values : Option A
+
+-- what was read, a double or a run, is answered 0; where nothing was read, the bytes are no stream: 23
+abbrev pub answered : {A : Type 0} → Option A → Answer A
+answered (some x) = record { number = 0; values = some x }
+answered none = record { number = 23; values = none }
+
+-- document 01's number and values for each case of the step's enum
+abbrev pub answerOf : Step → Answer Found
+answerOf (Double v next) = answered (some (record { double = v; next = next }))
+answerOf Bad = answered none
 
 -- the double of a half byte and the bytes after it: their xor with the prediction of the half byte's side
 unfoldable pub decoded : ℕ → ℕ → ℕ → List ℕ → ℕ
@@ -26,39 +41,33 @@ unfoldable pub coded : ℕ → ℕ → ℕ → List ℕ → Bool
 unfolding decoded
 coded f d half bytes = leb (bytesOf (half % 8)) (length bytes) && eqb (halfByte f d (decoded f d half bytes)) half
 
--- one step of reading: the double and how many bytes it takes, or bad
-unfoldable pub stepOf : ℕ → ℕ → ℕ → List ℕ → Step
+-- one step of reading: the double and how many bytes it takes
+unfoldable pub stepOf : ℕ → ℕ → ℕ → List ℕ → Option Found
 unfolding decoded coded
-stepOf f d half bytes = cond (coded f d half bytes) (Double (decoded f d half bytes) (bytesOf (half % 8))) Bad
-
--- the same of a step that starts at a place: the double and the next place
-abbrev pub placed : ℕ → Step → Step
-placed at (Double v n) = Double v (at + n)
-placed at Bad = Bad
+stepOf f d half bytes = cond (coded f d half bytes) (some (record { double = decoded f d half bytes; next = bytesOf (half % 8) })) none
 
 -- an odd end: half byte 6 and a last byte 00
 abbrev pub oddEnd : ℕ → List ℕ → Bool
 oddEnd half bytes = eqb half oddHalf && eqb (length bytes) 1 && eqb (getD bytes 0 0) oddByte
 
--- a step's double, and the doubles that `more` gives of the predictors and the bytes after it
-abbrev pub stepThen : ℕ → Predictors → List ℕ → (Predictors → List ℕ → Option (List ℕ)) → Step → Option (List ℕ)
-stepThen size s bytes more (Double v n) = Option·map (λ vs. v ∷ vs) (more (update size s v) (drop n bytes))
-stepThen size s bytes more Bad = none
+-- what `more` makes of what was read, if something was
+abbrev pub andThen : {A B : Type 0} → Option A → (A → Option B) → Option B
+andThen none more = none
+andThen (some x) more = more x
 
-abbrev pub doubleThen : ℕ → Predictors → ℕ → List ℕ → (Predictors → List ℕ → Option (List ℕ)) → Option (List ℕ)
-doubleThen size s half bytes more = stepThen size s bytes more (stepOf (fcm s) (dfcm s) half bytes)
-
--- a pair: the first double, and then the odd end or the second double; hi and lo are the halves of its byte
-abbrev pub pairThen : ℕ → Predictors → ℕ → ℕ → List ℕ → (Predictors → List ℕ → Option (List ℕ)) → Option (List ℕ)
-pairThen size s hi lo bytes more =
-    doubleThen size s hi bytes (λ s′ bytes′. cond (oddEnd lo bytes′) (some []) (doubleThen size s′ lo bytes′ more))
-
--- at most k pairs, up to the last byte: the doubles, or none where the bytes are no stream
+-- at most k pairs, up to the last byte: the doubles, or none where the bytes are no stream.
+-- A pair is its first double, and then the odd end, or its second double and the pairs after it
 abbrev pub readPairs : ℕ → ℕ → Predictors → List ℕ → Option (List ℕ)
 readPairs size zero s [] = some []
 readPairs size zero s (b ∷ bytes) = none
 readPairs size (suc k) s [] = some []
-readPairs size (suc k) s (b ∷ bytes) = pairThen size s (b / 16) (b % 16) bytes (readPairs size k)
+readPairs size (suc k) s (b ∷ bytes) =
+    andThen (stepOf (fcm s) (dfcm s) (b / 16) bytes) (λ x.
+    let s′ = update size s (x .double) in
+    let bytes′ = drop (x .next) bytes in
+    cond (oddEnd (b % 16) bytes′) (some (x .double ∷ []))
+    (andThen (stepOf (fcm s′) (dfcm s′) (b % 16) bytes′) (λ y.
+    Option·map (λ vs. x .double ∷ y .double ∷ vs) (readPairs size k (update size s′ (y .double)) (drop (y .next) bytes′)))))
 
 -- "any run of at most 4,096 doubles"
 abbrev pub mostDoubles : ℕ

@@ -10,21 +10,21 @@ use Rattle.predict.specs.declared.Step.the-variants.{Double, Bad}
 use Rattle.predict.specs.Bytes.{fromBytes}
 use Rattle.predict.specs.Predictors.{Predictors, fcm, dfcm, prediction}
 use Rattle.predict.specs.Stream.{bytesOf, halfByte}
-use Rattle.predict.specs.Reading.{decoded, coded, stepOf}
-use Rattle.steps.specs.Calls.{Stepped}
+use Rattle.predict.specs.Reading.{answerOf, decoded, coded, stepOf}
+use Rattle.steps.specs.Calls.{stepAnswer}
 
 module _ (s : Predictors) (half : ℕ) (bytes : List ℕ) (at : ℕ) where
-  refused : coded (fcm s) (dfcm s) half bytes ≡ false → Stepped s half bytes at Bad
+  refused : coded (fcm s) (dfcm s) half bytes ≡ false → answerOf Bad ≡ stepAnswer s half bytes at
   unfolding stepOf
-  refused e = record { step = rw e; number = rw e }
+  refused e = rw e
 
-  accepted : coded (fcm s) (dfcm s) half bytes ≡ true → Stepped s half bytes at (Double (decoded (fcm s) (dfcm s) half bytes) (at + bytesOf (half % 8)))
+  accepted : coded (fcm s) (dfcm s) half bytes ≡ true → answerOf (Double (decoded (fcm s) (dfcm s) half bytes) (at + bytesOf (half % 8))) ≡ stepAnswer s half bytes at
   unfolding stepOf
-  accepted e = record { step = rw e; number = rw e }
+  accepted e = rw e
 
   module _ (n : ℕ) (en : n ≡ bytesOf (half % 8)) where
     -- a byte is missing
-    pub short : length bytes < n → Stepped s half bytes at Bad
+    pub short : length bytes < n → answerOf Bad ≡ stepAnswer s half bytes at
     unfolding coded
     short h = refused (rw (lt-leb (bytesOf (half % 8)) (length bytes) (rw en at h)))
 
@@ -40,11 +40,11 @@ module _ (s : Predictors) (half : ℕ) (bytes : List ℕ) (at : ℕ) where
       fit′ = rw en at fit
 
       -- the rules give the double this half byte
-      pub whole : k ≡ half → Stepped s half bytes at (Double (bitXor x p) (at + n))
+      pub whole : k ≡ half → answerOf (Double (bitXor x p) (at + n)) ≡ stepAnswer s half bytes at
       unfolding coded
       whole e = rw (double-is, en) (accepted (rw (le-leb _ _ fit′, eq-eqb _ _ (half-is ∙ e))))
 
       -- or another
-      pub other : (k ≡ half → ⊥) → Stepped s half bytes at Bad
+      pub other : (k ≡ half → ⊥) → answerOf Bad ≡ stepAnswer s half bytes at
       unfolding coded
       other e = refused (rw (le-leb _ _ fit′, ne-eqb _ _ (λ q. e (sym half-is ∙ q))))

@@ -1,18 +1,17 @@
 -- What the functions of the crate compute, in terms of the definitions of the stream.
 use mathlib.Core.Path.{_≡_}
-use mathlib.Core.Bool.{cond}
 use mathlib.Core.List.{List, _∷_, _++_}
+use mathlib.Core.Option.{Option·map}
 use Prim.Native.Nat.{ℕ, _+_, _*_, _%_, _<_}
 use lib.ListN.{length}
 use lib.Seq.{sets}
 use Rattle.steps.specs.declared.Coded.{Coded}
 use Rattle.steps.specs.declared.Place.{Place}
 use Rattle.predict.specs.declared.Predicted.{Predicted}
-use Rattle.predict.specs.declared.Step.{Step}
 use Rattle.predict.specs.Predictors.{Predictors, Tables, fcm, dfcm, update}
 use Rattle.predict.specs.Bytes.{lowBytes}
 use Rattle.predict.specs.Stream.{half, residual, bytesOf}
-use Rattle.predict.specs.Reading.{answerOf, coded, stepOf, placed}
+use Rattle.predict.specs.Reading.{Found, Answer, answered, stepOf}
 
 -- two tables of one size, and both hashes are places in them
 pub record Within (f d : List ℕ) (p : Place) : Type 0 where
@@ -43,7 +42,6 @@ pub record Appended (out : List ℕ) (at : ℕ) (numbers : List ℕ) (next : ℕ
   pub moved : next ≡ at + length numbers
   pub put : out′ ≡ sets out at numbers
 
--- a step's answer at a place, where the bytes are those from that place on: the double and the next place, or bad; and document 01's number of it
-pub record Stepped (s : Predictors) (half : ℕ) (bytes : List ℕ) (at : ℕ) (r : Step) : Type 0 where
-  pub step : r ≡ placed at (stepOf (fcm s) (dfcm s) half bytes)
-  pub number : answerOf r ≡ cond (coded (fcm s) (dfcm s) half bytes) 0 23
+-- the answer of a step, where the bytes are those from place `at` on: the double and the next place, or none
+abbrev pub stepAnswer : Predictors → ℕ → List ℕ → ℕ → Answer Found
+stepAnswer s half bytes at = answered (Option·map (λ x. record { double = x .double; next = at + x .next }) (stepOf (fcm s) (dfcm s) half bytes))

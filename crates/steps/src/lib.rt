@@ -14,8 +14,8 @@ ghost use mathlib.Core.Path.{_≡_};
 ghost use Prim.Native.Nat.{_^_, _≤_, _<_};
 ghost use lib.ListN.{length, drop};
 ghost use Rattle.predict.specs.Predictors.{update};
-ghost use Rattle.predict.specs.Reading.{oddEnd};
-ghost use Rattle.steps.specs.Calls.{Within, predictors, predicted, Encoded, pairOf, Appended, Stepped};
+ghost use Rattle.predict.specs.Reading.{answerOf, oddEnd};
+ghost use Rattle.steps.specs.Calls.{Within, predictors, predicted, Encoded, pairOf, Appended, stepAnswer};
 
 // Where the predictors stand beside their tables: both hashes and the last value.
 pub struct Place {
@@ -91,7 +91,7 @@ pub fn put_pair(out: &mut [u8], at: usize, a: Coded, b: Coded) -> usize
 // One step of reading: the double of a half byte and of the bytes from place `at` on, if the rules code it so, and the next place.
 pub fn read_step(f: &[u64], d: &[u64], p: Place, stream: &[u8], at: usize, half: u32) -> Step
     requires { ⌜ Within (now f) (now d) p × (at ≤ length (now stream)) × (half < 16) ⌝ }
-    ensures { λ r. ⌜ Stepped (predictors (now (f .entry)) (now (d .entry)) p) half (drop at (now (stream .entry))) at r ⌝ }
+    ensures { λ r. ⌜ answerOf r ≡ stepAnswer (predictors (now (f .entry)) (now (d .entry)) p) half (drop at (now (stream .entry))) at ⌝ }
 {
     let a = predict(f, d, p);
     let n = bytes_of(half % 8);
