@@ -9,27 +9,27 @@ use native.Mathlib.Numerals.{add-one}
 use native.Mathlib.Omega.{arith}
 use lib.ListN.{length, drop, getD, set, replicate, length-set, drop-of-length-le}
 use lib.Seq.{sets, drop-cons}
-use Rattle.steps.specs.declared.Place.{Place}
+use Rattle.fpc_step.specs.declared.Place.{Place}
 use Rattle.fpc.specs.declared.Reply.{Reply}
-use Rattle.predict.specs.declared.Step.{Step}
-use Rattle.predict.specs.declared.Step.the-variants.{Double, Bad}
-use Rattle.predict.specs.Predictors.{Predictors, start, fcm, dfcm, update, after, Tables}
-use Rattle.predict.specs.Stream.{tableF, tableD}
-use Rattle.predict.specs.Reading.{Found, answerOf, stepOf, oddEnd, andThen, readPairs, mostDoubles, read}
-use Rattle.steps.specs.Calls.{Within, predictors, stepAnswer}
+use Rattle.fpc_stream.specs.declared.Step.{Step}
+use Rattle.fpc_stream.specs.declared.Step.the-variants.{Double, Bad}
+use Rattle.fpc_stream.specs.Predictors.{Predictors, startPredictors, fcm, dfcm, update, after, Tables}
+use Rattle.fpc_stream.specs.Stream.{tableF, tableD}
+use Rattle.fpc_stream.specs.Reading.{Found, answerOf, stepOf, oddEnd, andThen, readPairs, mostDoubles, read}
+use Rattle.fpc_step.specs.Calls.{Within, predictors, stepAnswer}
 use Rattle.fpc.specs.Calls.{RanAs}
-use Rattle.steps.proofs.WriteLaws.{start-is, start-within, same-size, within-next}
-use Rattle.steps.proofs.StepBounds.{bad, onward}
+use Rattle.fpc_step.proofs.WriteLaws.{start-is, start-within, same-size, within-next}
+use Rattle.fpc_step.proofs.StepBounds.{bad, onward}
 
 -- what reading leaves: how many doubles, the output and both tables
-pub record Took : Type 0 where
+pub record RunRead : Type 0 where
   pub count : ℕ
   pub out : List ℕ
   pub f : List ℕ
   pub d : List ℕ
 
 -- the doubles read after the predictors s, written from place n on
-abbrev pub tookFrom : ℕ → Predictors → List ℕ → ℕ → Option (List ℕ) → Option Took
+abbrev pub tookFrom : ℕ → Predictors → List ℕ → ℕ → Option (List ℕ) → Option RunRead
 tookFrom size s out n none = none
 tookFrom size s out n (some vs) = some (record { count = n + length vs; out = sets out n vs; f = after size s vs .f; d = after size s vs .d })
 
@@ -44,15 +44,15 @@ took-one size s out n v (some vs) =
 
 -- a whole reading
 pub ran-as : (size : ℕ) (out : List ℕ) (o : Option (List ℕ)) (n : ℕ) (out′ f′ d′ : List ℕ)
-    → some (record { count = n; out = out′; f = f′; d = d′ }) ≡ tookFrom size (start size) out 0 o → (r : Reply) → r .answer ≡ 0 → r .count ≡ n → RanAs size out o r out′ f′ d′
+    → some (record { count = n; out = out′; f = f′; d = d′ }) ≡ tookFrom size (startPredictors size) out 0 o → (r : Reply) → r .answer ≡ 0 → r .count ≡ n → RanAs size out o r out′ f′ d′
 unfolding tableF tableD
 ran-as size out none n out′ f′ d′ e r ea ec = absurd (let z : _≡_ {A = ℕ} 0 1 = cc in omega arith)
 ran-as size out (some vs) n out′ f′ d′ e r ea ec =
-    let t : _≡_ {A = Took} (record { count = n; out = out′; f = f′; d = d′ }) (record { count = 0 + length vs; out = sets out 0 vs; f = after size (start size) vs .f; d = after size (start size) vs .d }) = cc in
-    (ea, ec ∙ ap (λ (x : Took). x .count) t ∙ zero-add (length vs), ap (λ (x : Took). x .out) t, record { f-is = ap (λ (x : Took). x .f) t; d-is = ap (λ (x : Took). x .d) t })
+    let t : _≡_ {A = RunRead} (record { count = n; out = out′; f = f′; d = d′ }) (record { count = 0 + length vs; out = sets out 0 vs; f = after size (startPredictors size) vs .f; d = after size (startPredictors size) vs .d }) = cc in
+    (ea, ec ∙ ap (λ (x : RunRead). x .count) t ∙ zero-add (length vs), ap (λ (x : RunRead). x .out) t, record { f-is = ap (λ (x : RunRead). x .f) t; d-is = ap (λ (x : RunRead). x .d) t })
 
 pub ran-not : (size : ℕ) (out : List ℕ) (o : Option (List ℕ)) (out′ f′ d′ : List ℕ)
-    → none ≡ tookFrom size (start size) out 0 o → (r : Reply) → r .answer ≡ 23 → r .count ≡ 0 → RanAs size out o r out′ f′ d′
+    → none ≡ tookFrom size (startPredictors size) out 0 o → (r : Reply) → r .answer ≡ 23 → r .count ≡ 0 → RanAs size out o r out′ f′ d′
 ran-not size out none out′ f′ d′ e r ea ec = (ea, ec)
 ran-not size out (some vs) out′ f′ d′ e r ea ec = absurd (let z : _≡_ {A = ℕ} 0 1 = cc in omega arith)
 
@@ -62,7 +62,7 @@ pairsLeft n = (mostDoubles - n) / 2
 
 -- where the reader stands after n doubles: at a place of the stream, between two pairs
 pub record Reading (size : ℕ) (bytes out₀ f d : List ℕ) (p : Place) (out : List ℕ) (at n : ℕ) : Type 0 where
-  pub left : tookFrom size (predictors f d p) out n (readPairs size (pairsLeft n) (predictors f d p) (drop at bytes)) ≡ tookFrom size (start size) out₀ 0 (read size bytes)
+  pub left : tookFrom size (predictors f d p) out n (readPairs size (pairsLeft n) (predictors f d p) (drop at bytes)) ≡ tookFrom size (startPredictors size) out₀ 0 (read size bytes)
   pub within : Within f d p
   pub sized : length f ≡ size
   pub room : length out ≡ length out₀
@@ -90,7 +90,7 @@ first-of v false (some y) more = go (more y)
 
 -- where the reader stands after the first double of a pair; n doubles came before the pair
 pub record Halfway (size : ℕ) (bytes out₀ f d : List ℕ) (p : Place) (out : List ℕ) (lo at n : ℕ) : Type 0 where
-  pub left : tookFrom size (predictors f d p) out (n + 1) (secondLeft size (predictors f d p) lo (drop at bytes) (pairsLeft (n + 2))) ≡ tookFrom size (start size) out₀ 0 (read size bytes)
+  pub left : tookFrom size (predictors f d p) out (n + 1) (secondLeft size (predictors f d p) lo (drop at bytes) (pairsLeft (n + 2))) ≡ tookFrom size (startPredictors size) out₀ 0 (read size bytes)
   pub within : Within f d p
   pub sized : length f ≡ size
   pub room : length out ≡ length out₀
@@ -121,8 +121,8 @@ module _ (size : ℕ) (bytes out₀ f d : List ℕ) (p : Place) (out : List ℕ)
       let a : n + 0 ≡ n = add-zero n in
       ran-as size out₀ (read size bytes) n out f d (ended (pairsLeft n) a (rw z at (w .left))) r ea ec
     where
-      ended : (k : ℕ) → n + 0 ≡ n → tookFrom size (predictors f d p) out n (readPairs size k (predictors f d p) []) ≡ tookFrom size (start size) out₀ 0 (read size bytes)
-          → some (record { count = n; out = out; f = f; d = d }) ≡ tookFrom size (start size) out₀ 0 (read size bytes)
+      ended : (k : ℕ) → n + 0 ≡ n → tookFrom size (predictors f d p) out n (readPairs size k (predictors f d p) []) ≡ tookFrom size (startPredictors size) out₀ 0 (read size bytes)
+          → some (record { count = n; out = out; f = f; d = d }) ≡ tookFrom size (startPredictors size) out₀ 0 (read size bytes)
       ended zero a e = rw a at e
       ended (suc k) a e = rw a at e
 
@@ -142,7 +142,7 @@ module _ (size : ℕ) (bytes out₀ f d : List ℕ) (p : Place) (out : List ℕ)
       one-more = omega (arith, w .pairs, w .most, room-left)
 
       pair-left : tookFrom size (predictors f d p) out n (readPairs size (suc (pairsLeft (n + 2))) (predictors f d p) (b ∷ drop (at + 1) bytes))
-          ≡ tookFrom size (start size) out₀ 0 (read size bytes)
+          ≡ tookFrom size (startPredictors size) out₀ 0 (read size bytes)
       pair-left = rw (first-byte, one-more, ← eb) at (w .left)
 
       module _ (r : Step) (st : answerOf r ≡ stepAnswer (predictors f d p) (b / 16) (drop (at + 1) bytes) (at + 1)) where
@@ -187,7 +187,7 @@ module _ (size : ℕ) (bytes out₀ f d : List ℕ) (p : Place) (out : List ℕ)
     double-left : tookFrom size (predictors f d p) out (n + 1)
         (andThen (stepOf (fcm (predictors f d p)) (dfcm (predictors f d p)) lo (drop at bytes)) (λ y.
         Option·map (λ vs. y .double ∷ vs) (readPairs size (pairsLeft (n + 2)) (update size (predictors f d p) (y .double)) (drop (y .next) (drop at bytes)))))
-        ≡ tookFrom size (start size) out₀ 0 (read size bytes)
+        ≡ tookFrom size (startPredictors size) out₀ 0 (read size bytes)
     double-left = rw even at (w .left)
 
     pub second-bad : r ≡ Bad → (reply : Reply) → reply .answer ≡ 23 → reply .count ≡ 0 → RanAs size out₀ (read size bytes) reply out f d

@@ -6,27 +6,27 @@ use native.Mathlib.Omega.{arith}
 use native.Mathlib.Nat.{add-zero}
 use lib.ListN.{length, drop, getD, replicate, length-append, drop-of-length-le}
 use lib.Seq.{sets, length-sets, drop-cons, drop-length}
-use Rattle.steps.specs.declared.Place.{Place}
-use Rattle.predict.specs.Predictors.{Predictors, start, update, after, Tables}
-use Rattle.predict.specs.Stream.{pairBytes, oddBytes, streamFrom, stream, tableF, tableD}
-use Rattle.steps.specs.Calls.{Within, predictors, Appended}
+use Rattle.fpc_step.specs.declared.Place.{Place}
+use Rattle.fpc_stream.specs.Predictors.{Predictors, startPredictors, update, after, Tables}
+use Rattle.fpc_stream.specs.Stream.{pairBytes, oddBytes, streamFrom, stream, tableF, tableD}
+use Rattle.fpc_step.specs.Calls.{Within, predictors, Appended}
 use Rattle.fpc.specs.Calls.{Stand}
 use Rattle.bits.proofs.WriteLaws.{sets-append}
-use Rattle.steps.proofs.WriteLaws.{start-is, start-within, same-size, within-next}
-use Rattle.predict.proofs.Lengths.{pair-le}
+use Rattle.fpc_step.proofs.WriteLaws.{start-is, start-within, same-size, within-next}
+use Rattle.fpc_stream.proofs.Lengths.{pair-le}
 
 -- what writing leaves: the next place, the output and both tables
-pub record Written : Type 0 where
+pub record RunWritten : Type 0 where
   pub next : ℕ
   pub out : List ℕ
   pub f : List ℕ
   pub d : List ℕ
 
-abbrev pub wrote : List ℕ → ℕ → List ℕ → Predictors → Written
+abbrev pub wrote : List ℕ → ℕ → List ℕ → Predictors → RunWritten
 wrote out at bytes s = record { next = at + length bytes; out = sets out at bytes; f = s .f; d = s .d }
 
 -- the doubles vs written from place `at` on, after the predictors s
-abbrev pub wroteFrom : ℕ → Predictors → List ℕ → ℕ → List ℕ → Written
+abbrev pub wroteFrom : ℕ → Predictors → List ℕ → ℕ → List ℕ → RunWritten
 wroteFrom size s out at vs = wrote out at (streamFrom size s vs) (after size s vs)
 
 -- one pair, and then the rest
@@ -51,15 +51,15 @@ drop-one vs i h =
     rw (drop-cons vs i 0 (omega arith), q) (ap (λ (l : List ℕ). getD vs i 0 ∷ l) (drop-length vs))
 
 -- a whole run, written from the start
-pub whole-run : (size : ℕ) (vs out : List ℕ) (r : ℕ) (out′ f′ d′ : List ℕ) → record { next = r; out = out′; f = f′; d = d′ } ≡ wroteFrom size (start size) out 0 vs
+pub whole-run : (size : ℕ) (vs out : List ℕ) (r : ℕ) (out′ f′ d′ : List ℕ) → record { next = r; out = out′; f = f′; d = d′ } ≡ wroteFrom size (startPredictors size) out 0 vs
     → Appended out 0 (stream size vs) r out′ × Stand size vs f′ d′
 unfolding stream tableF tableD
 whole-run size vs out r out′ f′ d′ e =
-    (record { moved = ap (λ (w : Written). w .next) e; put = ap (λ (w : Written). w .out) e }, record { f-is = ap (λ (w : Written). w .f) e; d-is = ap (λ (w : Written). w .d) e })
+    (record { moved = ap (λ (w : RunWritten). w .next) e; put = ap (λ (w : RunWritten). w .out) e }, record { f-is = ap (λ (w : RunWritten). w .f) e; d-is = ap (λ (w : RunWritten). w .d) e })
 
 -- where the writer stands after i doubles of the run vs
 pub record Writing (size : ℕ) (vs out₀ f d : List ℕ) (p : Place) (out : List ℕ) (at i : ℕ) : Type 0 where
-  pub left : wroteFrom size (predictors f d p) out at (drop i vs) ≡ wroteFrom size (start size) out₀ 0 vs
+  pub left : wroteFrom size (predictors f d p) out at (drop i vs) ≡ wroteFrom size (startPredictors size) out₀ 0 vs
   pub within : Within f d p
   pub sized : length f ≡ size
   pub room : length out ≡ length out₀

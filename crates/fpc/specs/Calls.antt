@@ -6,9 +6,9 @@ use Prim.Native.Nat.{ℕ}
 use lib.ListN.{length, replicate}
 use lib.Seq.{sets}
 use Rattle.fpc.specs.declared.Reply.{Reply}
-use Rattle.predict.specs.Stream.{tableF, tableD}
-use Rattle.predict.specs.Reading.{answered}
-use Rattle.predict.specs.Outcome.{Outcome}
+use Rattle.fpc_stream.specs.Stream.{tableF, tableD}
+use Rattle.fpc_stream.specs.Reading.{answered}
+use Rattle.fpc_stream.specs.Outcome.{Outcome}
 
 -- both tables stand as after the last double of a run
 pub record Stand (size : ℕ) (vs f d : List ℕ) : Type 0 where

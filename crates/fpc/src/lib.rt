@@ -1,25 +1,25 @@
 // FPC streams: document 01's "FPC stream", writer and reader.
-use predict::Step;
-use steps::Coded;
-use steps::Place;
-use steps::advance;
-use steps::encode;
-use steps::odd_end;
-use steps::put_pair;
-use steps::read_step;
-use steps::slices::byte;
-use steps::slices::clear;
-use steps::slices::put_double;
+use fpc_stream::Step;
+use fpc_step::CodedDouble;
+use fpc_step::Place;
+use fpc_step::advance;
+use fpc_step::encode;
+use fpc_step::odd_end;
+use fpc_step::put_pair;
+use fpc_step::read_step;
+use fpc_step::slices::byte;
+use fpc_step::slices::clear;
+use fpc_step::slices::put_double;
 ghost use mathlib.Core.Path.{_≡_};
 ghost use mathlib.Core.Bool.{_&&_};
 ghost use lib.Dec.{eqb};
 ghost use Prim.Native.Nat.{_^_, _≤_};
 ghost use lib.ListN.{length};
-ghost use Rattle.predict.specs.Predictors.{update, Tables};
-ghost use Rattle.predict.specs.Stream.{pairBytes, oddBytes, stream};
-ghost use Rattle.predict.specs.Reading.{mostDoubles, read};
-ghost use Rattle.predict.specs.Outcome.{goodSize, delivered, writeOutcome, readInto, readOutcome};
-ghost use Rattle.steps.specs.Calls.{Within, predictors, Appended};
+ghost use Rattle.fpc_stream.specs.Predictors.{update, Tables};
+ghost use Rattle.fpc_stream.specs.Stream.{pairBytes, oddBytes, stream};
+ghost use Rattle.fpc_stream.specs.Reading.{mostDoubles, read};
+ghost use Rattle.fpc_stream.specs.Outcome.{goodSize, delivered, fpcWriteOutcome, readInto, fpcReadOutcome};
+ghost use Rattle.fpc_step.specs.Calls.{Within, predictors, Appended};
 ghost use Rattle.fpc.specs.Calls.{Stand, RanAs, Refused, outcome};
 
 // What a public call answers: document 01's answer number, and a count.
@@ -77,7 +77,7 @@ fn write_odd(f: &mut [u64], d: &mut [u64], p: Place, v: u64, out: &mut [u8], at:
     ensures { λ r. ⌜ (now (f .exit) ≡ update (length (now (f .entry))) (predictors (now (f .entry)) (now (d .entry)) p) v .f) × (now (d .exit) ≡ update (length (now (f .entry))) (predictors (now (f .entry)) (now (d .entry)) p) v .d) ⌝ }
 {
     let a = encode(f, d, p, v);
-    let b = Coded {
+    let b = CodedDouble {
         half: 6,
         xor: 0,
         place: p,
@@ -152,7 +152,7 @@ fn write_measured(f: &mut [u64], d: &mut [u64], doubles: &[u64], out: &mut [u8])
 
 // The FPC writer. Both tables are lent beside the doubles and the room for the stream; what they hold does not matter.
 pub fn fpc_write(f: &mut [u64], d: &mut [u64], doubles: &[u64], out: &mut [u8]) -> Reply
-    ensures { λ r. ⌜ outcome r (now (out .exit)) (now (f .exit)) (now (d .exit)) ≡ writeOutcome (now (f .entry)) (now (d .entry)) (now (doubles .entry)) (now (out .entry)) ⌝ }
+    ensures { λ r. ⌜ outcome r (now (out .exit)) (now (f .exit)) (now (d .exit)) ≡ fpcWriteOutcome (now (f .entry)) (now (d .entry)) (now (doubles .entry)) (now (out .entry)) ⌝ }
 {
     if !good_lengths(f.len(), d.len()) {
         return Reply {
@@ -227,7 +227,7 @@ fn read_measured(f: &mut [u64], d: &mut [u64], stream: &[u8], doubles: &mut [u64
 
 // The FPC reader. Both tables are lent beside the stream and the room for the doubles; what they hold does not matter.
 pub fn fpc_read(f: &mut [u64], d: &mut [u64], stream: &[u8], doubles: &mut [u64]) -> Reply
-    ensures { λ r. ⌜ outcome r (now (doubles .exit)) (now (f .exit)) (now (d .exit)) ≡ readOutcome (now (f .entry)) (now (d .entry)) (now (stream .entry)) (now (doubles .entry)) ⌝ }
+    ensures { λ r. ⌜ outcome r (now (doubles .exit)) (now (f .exit)) (now (d .exit)) ≡ fpcReadOutcome (now (f .entry)) (now (d .entry)) (now (stream .entry)) (now (doubles .entry)) ⌝ }
 {
     if !good_lengths(f.len(), d.len()) {
         return Reply {

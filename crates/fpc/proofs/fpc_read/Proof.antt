@@ -2,7 +2,7 @@
 use mathlib.Core.Path.{sym, _∙_}
 use borrow.Author.Tests.{not-true, not-false}
 use borrow.Author.Needs.{needs}
-use Rattle.predict.proofs.Rows.{good-tables, read-20, read-21, read-later}
+use Rattle.fpc_stream.proofs.Rows.{good-tables, read-20, read-21, read-later}
 use Rattle.fpc.proofs.fpc_read.Statement.{statement}
 use Rattle.fpc.proofs.fpc_read.Tie as tie
 

@@ -2,7 +2,7 @@
 use mathlib.Core.Path.{sym, _∙_}
 use borrow.Author.Tests.{not-true, not-false}
 use borrow.Author.Needs.{needs}
-use Rattle.predict.proofs.Rows.{good-tables, write-20, write-21, write-later}
+use Rattle.fpc_stream.proofs.Rows.{good-tables, write-20, write-21, write-later}
 use Rattle.fpc.proofs.fpc_write.Statement.{statement}
 use Rattle.fpc.proofs.fpc_write.Tie as tie
 

@@ -4,7 +4,7 @@ use mathlib.Core.Logic.{_⊎_, inl, inr}
 use mathlib.Core.Bool.{true, false}
 use Prim.Native.Nat.{ℕ}
 use borrow.Author.Tests.{ne-eqb}
-use Rattle.predict.specs.Outcome.{goodSize}
+use Rattle.fpc_stream.specs.Outcome.{goodSize}
 use Rattle.fpc.proofs.good_size.Statement.{statement}
 use Rattle.fpc.proofs.good_size.Tie as tie
 

@@ -5,7 +5,7 @@ use Prim.Native.Nat.{ℕ}
 use lib.ListN.{length}
 use borrow.Author.Needs.{needs}
 use Rattle.fpc.specs.Calls.{RanAs}
-use Rattle.predict.specs.Reading.{read}
+use Rattle.fpc_stream.specs.Reading.{read}
 use Rattle.fpc.proofs.Delivery.{cleared, read-23, read-22, read-0}
 use Rattle.fpc.proofs.read_measured.Statement.{statement}
 use Rattle.fpc.proofs.read_measured.Tie as tie

@@ -9,7 +9,7 @@ use lib.ListN.{length}
 use borrow.Author.Needs.{needs}
 use Rattle.fpc.specs.declared.Reply.{Reply}
 use Rattle.fpc.specs.Calls.{RanAs}
-use Rattle.predict.specs.Reading.{mostDoubles, read}
+use Rattle.fpc_stream.specs.Reading.{mostDoubles, read}
 use Rattle.fpc.proofs.ReadLaws.{Reading, Halfway, reading-start, reading-done, reading-full, first-bad, first-double, half-odd, second-bad, second-double}
 use Rattle.fpc.proofs.read_run.Statement.{statement}
 use Rattle.fpc.proofs.read_run.Tie as tie

@@ -8,9 +8,9 @@ use lib.Seq.{sets}
 use lib.ListN.{length}
 use borrow.Author.Needs.{needs}
 use Rattle.fpc.specs.Calls.{Stand}
-use Rattle.predict.specs.Stream.{stream}
-use Rattle.fpc.proofs.Delivery.{cleared, short, whole}
-use Rattle.predict.proofs.Lengths.{stream-le}
+use Rattle.fpc_stream.specs.Stream.{stream}
+use Rattle.fpc.proofs.Delivery.{cleared, row-22, row-0}
+use Rattle.fpc_stream.proofs.Lengths.{stream-le}
 use Rattle.fpc.proofs.write_measured.Statement.{statement}
 use Rattle.fpc.proofs.write_measured.Tie as tie
 
@@ -51,7 +51,7 @@ returns c =
     let s = r .before .before .before .before .before .before .before .before in
     let a = s .args in
     let n = length (a .f .now) in
-    short n (a .doubles .now) (stream n (a .doubles .now)) (a .out .now) (r .write-run .last .1 .1 .1 .0) (r .write-run .result) (r .write-run .kept .1 .1 .1 .0)
+    row-22 n (a .doubles .now) (stream n (a .doubles .now)) (a .out .now) (r .write-run .last .1 .1 .1 .0) (r .write-run .result) (r .write-run .kept .1 .1 .1 .0)
     (r .write-run .ensures .0 .moved ∙ zero-add _)
     (t .if1 .taken)
     (x .refused .result)
@@ -89,7 +89,7 @@ returns-2 c =
     let n = length (a .f .now) in
     let q = r .write-run .last .1 .1 .1 .0 in
     let e = r .write-run .kept .0 in
-    whole n (a .doubles .now) (stream n (a .doubles .now)) (a .out .now) q (r .write-run .result) (r .write-run .kept .1 .1 .1 .0)
+    row-0 n (a .doubles .now) (stream n (a .doubles .now)) (a .out .now) q (r .write-run .result) (r .write-run .kept .1 .1 .1 .0)
     (r .write-run .ensures .0 .moved ∙ zero-add _)
     (t .if1 .left)
     (y .write-run2 .last .1 .1 .1 .0)

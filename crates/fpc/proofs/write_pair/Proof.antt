@@ -1,10 +1,10 @@
 -- `fpc::write_pair` meets its contract: two doubles coded one after the other, and their pair written. Assumes nothing.
 use native.Mathlib.Omega.{arith}
 use borrow.Author.Needs.{needs}
-use Rattle.steps.specs.Calls.{predictors}
-use Rattle.predict.specs.Predictors.{fcm, dfcm}
-use Rattle.steps.proofs.WriteLaws.{within-next, pair-written}
-use Rattle.predict.proofs.CodeLaws.{half-lt}
+use Rattle.fpc_step.specs.Calls.{predictors}
+use Rattle.fpc_stream.specs.Predictors.{fcm, dfcm}
+use Rattle.fpc_step.proofs.WriteLaws.{within-next, pair-written}
+use Rattle.fpc_stream.proofs.CodeLaws.{half-lt}
 use Rattle.fpc.proofs.write_pair.Statement.{statement}
 use Rattle.fpc.proofs.write_pair.Tie as tie
 

@@ -4,9 +4,9 @@ use Prim.Native.Nat.{ℕ, _-_}
 use native.Mathlib.Omega.{arith}
 use lib.ListN.{length}
 use borrow.Author.Needs.{needs}
-use Rattle.steps.specs.Calls.{Appended}
+use Rattle.fpc_step.specs.Calls.{Appended}
 use Rattle.fpc.specs.Calls.{Stand}
-use Rattle.predict.specs.Stream.{stream}
+use Rattle.fpc_stream.specs.Stream.{stream}
 use Rattle.fpc.proofs.RunLaws.{Writing, writing-start, writing-pair, writing-done, writing-odd}
 use Rattle.fpc.proofs.write_run.Statement.{statement}
 use Rattle.fpc.proofs.write_run.Tie as tie
