@@ -10,10 +10,9 @@ use lib.Dec.{ltb}
 use lib.ListN.{length, take, drop, replicate}
 use Rattle.fpc_stream.specs.Predictors.{AllBelow}
 use Rattle.fpc_stream.specs.Stream.{stream}
-use Rattle.fpc_stream.specs.Reading.{read, mostDoubles}
+use Rattle.fpc_stream.specs.Reading.{read, mostDoubles, IsStream}
 use Rattle.fpc_stream.specs.Outcome.{Outcome, goodTables, mostBytes, unchanged, zeroed, done, delivered, fpcWriteOutcome, readInto, fpcReadOutcome}
 use Rattle.fpc_stream.proofs.RoundTrip.{stream-injective}
-use Rattle.fpc_stream.proofs.OnlyStreams.{IsStream}
 use Rattle.fpc_stream.proofs.Rows.{good-tables}
 use Rattle.fpc_stream.proofs.Promises.{written-is-read, answer-23}
 

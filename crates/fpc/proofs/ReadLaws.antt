@@ -13,7 +13,8 @@ use Rattle.fpc_step.specs.declared.Place.{Place}
 use Rattle.fpc.specs.declared.Reply.{Reply}
 use Rattle.fpc_stream.specs.declared.Step.{Step}
 use Rattle.fpc_stream.specs.declared.Step.the-variants.{Double, Bad}
-use Rattle.fpc_stream.specs.Predictors.{Predictors, startPredictors, fcm, dfcm, update, after, Tables}
+use Rattle.fpc_stream.specs.Predictors.{Predictors, startPredictors, fcm, dfcm, update, after}
+use Rattle.fpc_stream.specs.Calls.{Tables}
 use Rattle.fpc_stream.specs.Stream.{tableF, tableD}
 use Rattle.fpc_stream.specs.Reading.{Found, answerOf, stepOf, oddEnd, andThen, readPairs, mostDoubles, read}
 use Rattle.fpc_step.specs.Calls.{Within, predictors, stepAnswer}

@@ -7,7 +7,8 @@ use native.Mathlib.Nat.{add-zero}
 use lib.ListN.{length, drop, getD, replicate, length-append, drop-of-length-le}
 use lib.Seq.{sets, length-sets, drop-cons, drop-length}
 use Rattle.fpc_step.specs.declared.Place.{Place}
-use Rattle.fpc_stream.specs.Predictors.{Predictors, startPredictors, update, after, Tables}
+use Rattle.fpc_stream.specs.Predictors.{Predictors, startPredictors, update, after}
+use Rattle.fpc_stream.specs.Calls.{Tables}
 use Rattle.fpc_stream.specs.Stream.{pairBytes, oddBytes, streamFrom, stream, tableF, tableD}
 use Rattle.fpc_step.specs.Calls.{Within, predictors, Appended}
 use Rattle.fpc.specs.Calls.{Stand}

@@ -11,9 +11,10 @@ use Rattle.bits.proofs.WriteLaws.{sets-append}
 use Rattle.fpc_step.specs.declared.CodedDouble.{CodedDouble}
 use Rattle.fpc_step.specs.declared.Place.{Place}
 use Rattle.words.specs.Word.{minus}
-use Rattle.fpc_stream.specs.Predictors.{startPredictors, Predictors, fcm, dfcm, fcmHash, dfcmHash, update, Tables}
+use Rattle.fpc_stream.specs.Predictors.{startPredictors, Predictors, fcm, dfcm, fcmHash, dfcmHash, update}
+use Rattle.fpc_stream.specs.Calls.{Tables}
 use Rattle.fpc_stream.specs.Bytes.{lowBytes}
-use Rattle.fpc_stream.specs.Stream.{remainingCount, remaining, halfAfter, remainingAfter, oddHalf, pairBytes, oddBytes}
+use Rattle.fpc_stream.specs.Stream.{remainingCount, remaining, remainingAfter, oddHalf, pairBytes, oddBytes}
 use Rattle.fpc_step.specs.Calls.{Within, predictors, Encoded, pairOf, Appended}
 use Rattle.fpc_stream.proofs.ByteLaws.{length-low}
 use Rattle.fpc_stream.proofs.CodeLaws.{half-code}

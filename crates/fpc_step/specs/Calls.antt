@@ -8,7 +8,8 @@ use lib.Seq.{sets}
 use Rattle.fpc_step.specs.declared.CodedDouble.{CodedDouble}
 use Rattle.fpc_step.specs.declared.Place.{Place}
 use Rattle.fpc_stream.specs.declared.Predicted.{Predicted}
-use Rattle.fpc_stream.specs.Predictors.{Predictors, Tables, fcm, dfcm, update}
+use Rattle.fpc_stream.specs.Predictors.{Predictors, fcm, dfcm, update}
+use Rattle.fpc_stream.specs.Calls.{Tables}
 use Rattle.fpc_stream.specs.Bytes.{lowBytes}
 use Rattle.fpc_stream.specs.Stream.{halfAfter, residual, remainingCount}
 use Rattle.fpc_stream.specs.Reading.{Found, Answer, answered, stepOf}

@@ -40,14 +40,9 @@ low-from (suc n) (b ∷ s) l h =
     let d : (b + 256 * x) / 256 ≡ x = omega arith in
     rw (m, d, low-from n s (omega arith) (λ j. h (suc j)))
 
--- the n lowest bytes of any number are bytes
-pub low-below : (n x : ℕ) → AllBelow 256 (lowBytes n x)
-low-below zero x i = lit< tt
-low-below (suc n) x zero = omega arith
-low-below (suc n) x (suc i) = low-below n (x / 256) i
-
 -- one turn of the loop that writes a number's bytes, lowest first
-pub put-turn : (l : List ℕ) (at n i y : ℕ) → i < n → sets (set l (at + i) (y % 256)) (at + (i + 1)) (lowBytes (n - (i + 1)) (y / 256)) ≡ sets l (at + i) (lowBytes (n - i) y)
+pub put-turn : (l : List ℕ) (at n i y : ℕ) → i < n
+    → sets (set l (at + i) (y % 256)) (at + (i + 1)) (lowBytes (n - (i + 1)) (y / 256)) ≡ sets l (at + i) (lowBytes (n - i) y)
 put-turn l at n i y h =
     let p : n - i ≡ suc (n - (i + 1)) = omega arith in
     let q : at + (i + 1) ≡ suc (at + i) = omega arith in

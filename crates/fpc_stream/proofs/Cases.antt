@@ -11,11 +11,13 @@ use Rattle.fpc_stream.specs.Reading.{decoded, coded, stepOf, read}
 
 -- everything that a case computes with
 unfoldable pub open-all : ℕ
-unfolding leadingZeros side fcmHash dfcmHash plus minus zeroBytes residual residualCode halfByte remaining pairBytes oddBytes stream tableF tableD decoded coded stepOf read
+unfolding leadingZeros side fcmHash dfcmHash plus minus zeroBytes residual residualCode halfByte remaining pairBytes oddBytes stream tableF tableD
+    decoded coded stepOf read
 open-all = 0
 
 -- 1.0 twice at 256 places, where the hashes do not fall on place 0 again as they do at 16
-pub twice-256 : stream 256 (0x3FF0_0000_0000_0000 ∷ 0x3FF0_0000_0000_0000 ∷ []) ≡ 0x00 ∷ 0x00 ∷ 0x00 ∷ 0x00 ∷ 0x00 ∷ 0x00 ∷ 0x00 ∷ 0xf0 ∷ 0x3f ∷ 0x00 ∷ 0x00 ∷ 0x00 ∷ 0x00 ∷ 0x00 ∷ 0x00 ∷ 0xf0 ∷ 0x3f ∷ []
+pub twice-256 : stream 256 (0x3FF0_0000_0000_0000 ∷ 0x3FF0_0000_0000_0000 ∷ [])
+    ≡ 0x00 ∷ 0x00 ∷ 0x00 ∷ 0x00 ∷ 0x00 ∷ 0x00 ∷ 0x00 ∷ 0xf0 ∷ 0x3f ∷ 0x00 ∷ 0x00 ∷ 0x00 ∷ 0x00 ∷ 0x00 ∷ 0x00 ∷ 0xf0 ∷ 0x3f ∷ []
 unfolding open-all
 twice-256 = refl
 

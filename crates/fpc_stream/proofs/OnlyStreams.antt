@@ -11,7 +11,7 @@ use lib.ListN.{length, drop, getD}
 use borrow.Author.Tests.{eqb-true}
 use Rattle.fpc_stream.specs.Predictors.{Predictors, startPredictors, fcm, dfcm, update, AllBelow}
 use Rattle.fpc_stream.specs.Stream.{halfAfter, remainingAfter, oddHalf, oddByte, pairBytes, oddBytes, streamFrom, stream}
-use Rattle.fpc_stream.specs.Reading.{Found, stepOf, oddEnd, andThen, readPairs, read, mostDoubles}
+use Rattle.fpc_stream.specs.Reading.{Found, stepOf, oddEnd, andThen, readPairs, read, mostDoubles, IsStream}
 use Rattle.fpc_stream.proofs.ByteLaws.{drop-below}
 use Rattle.fpc_stream.proofs.StepLaws.{Read, step-back}
 use Rattle.fpc_stream.proofs.Sound.{Sound, sound-start, sound-update, fcm-lt, dfcm-lt}
@@ -91,7 +91,7 @@ module _ (size k : ℕ) (s : Predictors) (sound : Sound s) (b : ℕ) (bytes : Li
         let w = y .double in
         let p : 16 * halfAfter s v + halfAfter s′ w ≡ b = rw (← taken .same-half, ← taken′ .same-half) halves in
         let q : (remainingAfter s v ++ remainingAfter s′ w) ++ streamFrom size (update size s′ w) vs ≡ bytes =
-            rw (append-assoc (remainingAfter s v) (remainingAfter s′ w) (streamFrom size (update size s′ w) vs), r .same, ← taken′ .same-bytes) (sym (taken .same-bytes)) in
+            rw (append-assoc (remainingAfter s v) (remainingAfter s′ w) _, r .same, ← taken′ .same-bytes) (sym (taken .same-bytes)) in
         record {
           same = ap₂ (λ (x : ℕ) (xs : List ℕ). x ∷ xs) p q;
           doubles = cons-below (2 ^ 64) v (w ∷ vs) (taken .double) (cons-below (2 ^ 64) w vs (taken′ .double) (r .doubles));
@@ -103,7 +103,8 @@ module _ (size k : ℕ) (s : Predictors) (sound : Sound s) (b : ℕ) (bytes : Li
         (ih : (s″ : Predictors) (bytes″ vs : List ℕ) → Sound s″ → AllBelow 256 bytes″ → more s″ bytes″ ≡ some vs → Streamed size k s″ bytes″ vs) where
       second-back : (vs : List ℕ) (o : Bool) → oddEnd (b % 16) bytes′ ≡ o
           → cond o (some (x .double ∷ []))
-          (andThen (stepOf (fcm s′) (dfcm s′) (b % 16) bytes′) (λ y. Option·map (λ ws. x .double ∷ y .double ∷ ws) (more (update size s′ (y .double)) (drop (y .next) bytes′))))
+          (andThen (stepOf (fcm s′) (dfcm s′) (b % 16) bytes′) (λ y.
+          Option·map (λ ws. x .double ∷ y .double ∷ ws) (more (update size s′ (y .double)) (drop (y .next) bytes′))))
           ≡ some vs
           → Streamed size (suc k) s (b ∷ bytes) vs
       second-back vs true e q = let z : vs ≡ x .double ∷ [] = cc in rw z (one-back e)
@@ -113,14 +114,16 @@ module _ (size k : ℕ) (s : Predictors) (sound : Sound s) (b : ℕ) (bytes : Li
           let taken′ = step-back (fcm s′) (dfcm s′) (b % 16) bytes′ (fcm-lt s′ sound′) (dfcm-lt s′) below′ y (t .found) in
           let m = map-eq-some-iff (λ (ws : List ℕ). x .double ∷ y .double ∷ ws) (more (update size s′ (y .double)) (drop (y .next) bytes′)) .0 (t .then) in
           let sound″ = sound-update size s′ (y .double) (taken′ .double) sound′ in
-          rw (← m .2) (two-back y taken′ (m .0) (ih (update size s′ (y .double)) (drop (y .next) bytes′) (m .0) sound″ (drop-below 256 (y .next) bytes′ below′) (m .1)))
+          let below″ = drop-below 256 (y .next) bytes′ below′ in
+          rw (← m .2) (two-back y taken′ (m .0) (ih (update size s′ (y .double)) (drop (y .next) bytes′) (m .0) sound″ below″ (m .1)))
 
 empty-streamed : (size k : ℕ) (s : Predictors) (vs : List ℕ) → _≡_ {A = Option (List ℕ)} (some []) (some vs) → Streamed size k s [] vs
 empty-streamed size k s vs e =
     let z : vs ≡ [] = cc in
     rw z (record { same = refl; doubles = nil-below (2 ^ 64) (lit< tt); most = omega arith })
 
-pub pairs-back : (size k : ℕ) (s : Predictors) (bytes vs : List ℕ) → Sound s → AllBelow 256 bytes → readPairs size k s bytes ≡ some vs → Streamed size k s bytes vs
+pub pairs-back : (size k : ℕ) (s : Predictors) (bytes vs : List ℕ) → Sound s → AllBelow 256 bytes
+    → readPairs size k s bytes ≡ some vs → Streamed size k s bytes vs
 pairs-back size zero s [] vs sound h e = empty-streamed size zero s vs e
 pairs-back size zero s (b ∷ bytes) vs sound h e = absurd (let z : _≡_ {A = ℕ} 0 1 = cc in omega arith)
 pairs-back size (suc k) s [] vs sound h e = empty-streamed size (suc k) s vs e
@@ -128,13 +131,9 @@ pairs-back size (suc k) s (b ∷ bytes) vs sound h e =
     let i : AllBelow 256 bytes = λ j. h (suc j) in
     let t = chained (stepOf (fcm s) (dfcm s) (b / 16) bytes) _ vs e in
     let taken = step-back (fcm s) (dfcm s) (b / 16) bytes (fcm-lt s sound) (dfcm-lt s) i (t .x) (t .found) in
-    second-back size k s sound b bytes i (t .x) taken (readPairs size k) (λ s″ bytes″ ws sound″ h″ e″. pairs-back size k s″ bytes″ ws sound″ h″ e″) vs _ refl (t .then)
-
--- the bytes are the defined stream of the run vs of at most 4,096 doubles
-pub record IsStream (size : ℕ) (bytes vs : List ℕ) : Type 0 where
-  pub same : stream size vs ≡ bytes
-  pub doubles : AllBelow (2 ^ 64) vs
-  pub most : length vs ≤ mostDoubles
+    second-back size k s sound b bytes i (t .x) taken (readPairs size k)
+    (λ s″ bytes″ ws sound″ h″ e″. pairs-back size k s″ bytes″ ws sound″ h″ e″)
+    vs _ refl (t .then)
 
 -- what was read is a run whose defined stream the bytes are
 pub read-is-stream : (size : ℕ) (bytes vs : List ℕ) → AllBelow 256 bytes → read size bytes ≡ some vs → IsStream size bytes vs

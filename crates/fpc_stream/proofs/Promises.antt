@@ -12,11 +12,11 @@ use lib.Seq.{take-at}
 use borrow.Author.Tests.{ltb-false, le-ltb}
 use Rattle.fpc_stream.specs.Predictors.{AllBelow}
 use Rattle.fpc_stream.specs.Stream.{stream}
-use Rattle.fpc_stream.specs.Reading.{read, mostDoubles}
+use Rattle.fpc_stream.specs.Reading.{read, mostDoubles, IsStream}
 use Rattle.fpc_stream.specs.Outcome.{goodTables, mostBytes, unchanged, zeroed, done, delivered, fpcWriteOutcome, readInto, fpcReadOutcome}
 use Rattle.fpc_stream.proofs.Lengths.{stream-le}
 use Rattle.fpc_stream.proofs.RoundTrip.{read-stream}
-use Rattle.fpc_stream.proofs.OnlyStreams.{IsStream, none-iff}
+use Rattle.fpc_stream.proofs.OnlyStreams.{none-iff}
 use Rattle.fpc_stream.proofs.Rows.{write-later, read-later}
 
 -- a result for which there is room is delivered
@@ -31,7 +31,8 @@ module _ (f d vs : List ℕ) (good : goodTables f d ≡ true) (few : length vs �
   write-done out h = sym (write-later f d good vs out few) ∙ delivered-done (length f) vs (stream (length f) vs) out h
 
   -- the defined stream of a run gives the run back, and leaves the tables as the writer's last double does
-  pub read-done : (doubles : List ℕ) → AllBelow (2 ^ 64) vs → length vs ≤ length doubles → fpcReadOutcome f d (stream (length f) vs) doubles ≡ done (length f) vs vs doubles
+  pub read-done : (doubles : List ℕ) → AllBelow (2 ^ 64) vs → length vs ≤ length doubles
+      → fpcReadOutcome f d (stream (length f) vs) doubles ≡ done (length f) vs vs doubles
   unfolding goodTables
   read-done doubles h room =
       sym (read-later f d good (stream (length f) vs) doubles (omega (arith, stream-le (length f) vs few)))
@@ -45,8 +46,11 @@ unfolding fpcWriteOutcome delivered done
 write-answers-0 f d vs out e =
     go (goodTables f d) refl (ltb mostDoubles (length vs)) (ltb-false _ _) (ltb (length out) (length (stream (length f) vs))) (ltb-false _ _) e
   where
-    go : (g : Bool) → goodTables f d ≡ g → (l : Bool) → (l ≡ false → length vs ≤ mostDoubles) → (r : Bool) → (r ≡ false → length (stream (length f) vs) ≤ length out)
-        → cond (not g) (unchanged 20 out f d) (cond l (unchanged 21 out f d) (cond r (zeroed 22 (length (stream (length f) vs)) (length f) out) (done (length f) vs (stream (length f) vs) out))) .answer ≡ 0
+    go : (g : Bool) → goodTables f d ≡ g → (l : Bool) → (l ≡ false → length vs ≤ mostDoubles)
+        → (r : Bool) → (r ≡ false → length (stream (length f) vs) ≤ length out)
+        → cond (not g) (unchanged 20 out f d)
+        (cond l (unchanged 21 out f d)
+        (cond r (zeroed 22 (length (stream (length f) vs)) (length f) out) (done (length f) vs (stream (length f) vs) out))) .answer ≡ 0
         → (goodTables f d ≡ true) × (length vs ≤ mostDoubles) × (length (stream (length f) vs) ≤ length out)
     go false eg l el r er e = absurd (omega arith)
     go true eg true el r er e = absurd (omega arith)
@@ -64,12 +68,14 @@ written-is-read f d f′ d′ vs out doubles e good′ size h room′ =
     let s = stream (length f) vs in
     let w = write-done f d vs (a .0) (a .1) out (a .2) in
     let t : take (length s) (s ++ drop (length s) out) ≡ s = take-at s (drop (length s) out) (length s) refl in
-    let r : fpcReadOutcome f′ d′ (stream (length f) vs) doubles ≡ done (length f) vs vs doubles = rw (← size) (read-done f′ d′ vs good′ (a .1) doubles h room′) in
+    let r : fpcReadOutcome f′ d′ (stream (length f) vs) doubles ≡ done (length f) vs vs doubles =
+        rw (← size) (read-done f′ d′ vs good′ (a .1) doubles h room′) in
     rw (w, t) r
 
 -- document 01's row 23: tables and input are good, and the bytes are not the stream, for these tables' size, of any run of at most 4,096 doubles
 pub answer-23 : (f d bytes doubles : List ℕ) → AllBelow 256 bytes
-    → (fpcReadOutcome f d bytes doubles .answer ≡ 23) ↔ ((goodTables f d ≡ true) × (length bytes ≤ mostBytes) × ((vs : List ℕ) → IsStream (length f) bytes vs → ⊥))
+    → (fpcReadOutcome f d bytes doubles .answer ≡ 23)
+    ↔ ((goodTables f d ≡ true) × (length bytes ≤ mostBytes) × ((vs : List ℕ) → IsStream (length f) bytes vs → ⊥))
 unfolding fpcReadOutcome delivered done
 answer-23 f d bytes doubles h =
     (λ e. forward (goodTables f d) refl (ltb mostBytes (length bytes)) (ltb-false mostBytes (length bytes)) (read (length f) bytes) refl e, λ p. back p)
@@ -90,5 +96,6 @@ answer-23 f d bytes doubles h =
     forward true eg false el none eo e = (eg, el refl, none-iff (length f) bytes h .0 eo)
     forward true eg false el (some vs) eo e = absurd (room vs (ltb (length doubles) (length vs)) e)
 
-    back : ((goodTables f d ≡ true) × (length bytes ≤ mostBytes) × ((vs : List ℕ) → IsStream (length f) bytes vs → ⊥)) → fpcReadOutcome f d bytes doubles .answer ≡ 23
+    back : ((goodTables f d ≡ true) × (length bytes ≤ mostBytes) × ((vs : List ℕ) → IsStream (length f) bytes vs → ⊥))
+        → fpcReadOutcome f d bytes doubles .answer ≡ 23
     back p = rw (p .0, le-ltb _ _ (p .1), none-iff (length f) bytes h .1 (p .2))

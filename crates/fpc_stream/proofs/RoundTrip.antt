@@ -10,7 +10,8 @@ use lib.Dec.{eqb}
 use lib.ListN.{length, drop, getD}
 use borrow.Author.Tests.{eqb-true}
 use Rattle.fpc_stream.specs.Predictors.{Predictors, startPredictors, fcm, dfcm, update, AllBelow}
-use Rattle.fpc_stream.specs.Stream.{zeroBytes, remainingCount, residualCode, residual, halfByte, remaining, halfAfter, remainingAfter, oddHalf, oddByte, pairBytes, oddBytes, streamFrom, stream}
+use Rattle.fpc_stream.specs.Stream.{zeroBytes, remainingCount, residualCode, residual, halfByte, remaining, halfAfter, remainingAfter}
+use Rattle.fpc_stream.specs.Stream.{oddHalf, oddByte, pairBytes, oddBytes, streamFrom, stream}
 use Rattle.fpc_stream.specs.Reading.{stepOf, oddEnd, readPairs, read, mostDoubles}
 use Rattle.fpc_stream.proofs.CodeLaws.{bytes-hold, half-lt, half-code, residual-lt}
 use Rattle.fpc_stream.proofs.StepLaws.{step-right, step-rest}
@@ -62,7 +63,8 @@ module _ (s : Predictors) (v : ℕ) (sound : Sound s) (hv : v < 2 ^ 64) (tail : 
   double-no-end = no-odd-end (fcm s) (dfcm s) v tail (fcm-lt s sound) (dfcm-lt s) hv
 
 -- at most 2 k doubles come back, whatever the predictors they start from
-pub read-stream-from : (size k : ℕ) (s : Predictors) (vs : List ℕ) → Sound s → AllBelow (2 ^ 64) vs → length vs ≤ 2 * k → readPairs size k s (streamFrom size s vs) ≡ some vs
+pub read-stream-from : (size k : ℕ) (s : Predictors) (vs : List ℕ) → Sound s → AllBelow (2 ^ 64) vs → length vs ≤ 2 * k
+    → readPairs size k s (streamFrom size s vs) ≡ some vs
 unfolding pairBytes oddBytes
 read-stream-from size zero s [] sound h l = refl
 read-stream-from size (suc k) s [] sound h l = refl
@@ -80,7 +82,8 @@ read-stream-from size (suc k) s (v ∷ w ∷ vs) sound h l =
     let lo : (16 * halfAfter s v + halfAfter s′ w) % 16 ≡ halfAfter s′ w = omega arith in
     let tail = streamFrom size (update size s′ w) vs in
     let ih = read-stream-from size k (update size s′ w) vs (sound-update size s′ w (h 1) sound′) (λ i. h (suc (suc i))) (omega arith) in
-    rw (append-assoc (remainingAfter s v) (remainingAfter s′ w) tail, hi, lo, double-right s v sound (h 0) (remainingAfter s′ w ++ tail), double-rest s v sound (h 0) (remainingAfter s′ w ++ tail),
+    let more = remainingAfter s′ w ++ tail in
+    rw (append-assoc (remainingAfter s v) (remainingAfter s′ w) tail, hi, lo, double-right s v sound (h 0) more, double-rest s v sound (h 0) more,
     double-no-end s′ w sound′ (h 1) tail, double-right s′ w sound′ (h 1) tail, double-rest s′ w sound′ (h 1) tail, ih)
 
 -- the defined stream of a run of at most 4,096 doubles, read with the same table size, is that run

@@ -2,7 +2,7 @@
 use mathlib.Core.Path.{_≡_, refl, sym, ap, _∙_, subst}
 use mathlib.Core.Bool.{Bool, true, false, cond, and-eq-true-iff}
 use mathlib.Core.List.{List, _++_}
-use mathlib.Core.Option.{Option, none, some}
+use mathlib.Core.Option.{none, some}
 use Prim.Native.Nat.{ℕ, _/_, _%_, _^_, _≤_, _<_}
 use native.Mathlib.Nat.{lt-of-lt-of-le, pow-le-pow-right}
 use native.Mathlib.Omega.{arith}
@@ -87,7 +87,8 @@ module _ (f d half : ℕ) (bytes : List ℕ) (hf : f < 2 ^ 64) (hd : d < 2 ^ 64)
     decoded-lt : decoded f d half bytes < 2 ^ 64
     unfolding decoded
     decoded-lt =
-        xor-lt 64 _ _ (lt-of-lt-of-le (from-lt (remainingCount (half % 8)) bytes hb) (pow-le-pow-right {n = 256} (lit< tt) {i = remainingCount (half % 8)} {j = 8} (bytes-le (half % 8))))
+        let n = remainingCount (half % 8) in
+        xor-lt 64 _ _ (lt-of-lt-of-le (from-lt n bytes hb) (pow-le-pow-right {n = 256} (lit< tt) {i = n} {j = 8} (bytes-le (half % 8))))
         (prediction-lt f d (half / 8) (2 ^ 64) hf hd)
 
     read-so : Read f d half bytes (record { double = decoded f d half bytes; next = remainingCount (half % 8) })

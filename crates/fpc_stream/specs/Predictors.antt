@@ -1,11 +1,10 @@
 -- Document 01's "FPC stream": the two predictors. Doubles are 64-bit patterns, numbers below 2 ^ 64.
-use mathlib.Core.Path.{_≡_}
 use mathlib.Core.Bool.{cond}
 use mathlib.Core.List.{List, [], _∷_}
-use Prim.Native.Nat.{ℕ, _*_, _/_, _%_, _^_, _≤_, _<_}
+use Prim.Native.Nat.{ℕ, _*_, _/_, _%_, _^_, _<_}
 use lib.Bits.{bitXor}
 use lib.Dec.{ltb, eqb}
-use lib.ListN.{length, getD, set, replicate}
+use lib.ListN.{getD, set, replicate}
 use Rattle.words.specs.Word.{plus, minus}
 
 -- both tables F and D, both hashes and the last value
@@ -15,12 +14,6 @@ pub record Predictors : Type 0 where
   pub h : ℕ
   pub g : ℕ
   pub last : ℕ
-
--- two tables of one size, from 1 to 1,024
-pub record Tables (f d : List ℕ) : Type 0 where
-  pub same : length d ≡ length f
-  pub some-place : 0 < length f
-  pub small : length f ≤ 1024
 
 -- "Tables, both hashes and the last value start at zero"
 abbrev pub startPredictors : ℕ → Predictors

@@ -1,16 +1,17 @@
 -- Document 01's "FPC stream": what a reader makes of bytes. It takes a double only where the rules code that double so.
+use mathlib.Core.Path.{_≡_}
 use mathlib.Core.Bool.{Bool, _&&_, cond}
 use mathlib.Core.List.{List, [], _∷_}
 use mathlib.Core.Option.{Option, none, some, Option·map}
-use Prim.Native.Nat.{ℕ, zero, suc, _/_, _%_}
+use Prim.Native.Nat.{ℕ, zero, suc, _/_, _%_, _^_, _≤_}
 use lib.Bits.{bitXor}
 use lib.Dec.{leb, eqb}
 use lib.ListN.{length, take, drop, getD}
 use Rattle.fpc_stream.specs.declared.Step.{Step}
 use Rattle.fpc_stream.specs.declared.Step.the-variants.{Double, Bad}
 use Rattle.fpc_stream.specs.Bytes.{fromBytes}
-use Rattle.fpc_stream.specs.Predictors.{Predictors, startPredictors, fcm, dfcm, prediction, update}
-use Rattle.fpc_stream.specs.Stream.{remainingCount, halfByte, oddHalf, oddByte}
+use Rattle.fpc_stream.specs.Predictors.{Predictors, startPredictors, fcm, dfcm, prediction, update, AllBelow}
+use Rattle.fpc_stream.specs.Stream.{remainingCount, halfByte, oddHalf, oddByte, stream}
 
 -- what one step of reading gives: a double, and the place after its bytes
 pub record Found : Type 0 where
@@ -77,3 +78,9 @@ mostDoubles = 4096
 unfoldable pub read : ℕ → List ℕ → Option (List ℕ)
 unfolding stepOf
 read size bytes = readPairs size (mostDoubles / 2) (startPredictors size) bytes
+
+-- the bytes are the defined stream of the run vs of at most 4,096 doubles
+pub record IsStream (size : ℕ) (bytes vs : List ℕ) : Type 0 where
+  pub same : stream size vs ≡ bytes
+  pub doubles : AllBelow (2 ^ 64) vs
+  pub most : length vs ≤ mostDoubles

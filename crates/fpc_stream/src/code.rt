@@ -6,14 +6,14 @@ ghost use Rattle.fpc_stream.specs.Predictors.{side, prediction};
 ghost use Rattle.fpc_stream.specs.Stream.{zeroBytes, zeroBytesCode, remainingCount, residual, halfByte};
 
 // The leading zero bytes of x.
-pub fn zero_bytes(x: u64) -> u32
+fn zero_bytes(x: u64) -> u32
     ensures { λ r. ⌜ r ≡ zeroBytes x ⌝ }
 {
     u64::leading_zeros(x) / 8
 }
 
 // The code of a count of leading zero bytes.
-pub fn zero_bytes_code(z: u32) -> u32
+fn zero_bytes_code(z: u32) -> u32
     ensures { λ r. ⌜ r ≡ zeroBytesCode z ⌝ }
 {
     if z < 4 { z } else { z - 1 }
@@ -32,7 +32,7 @@ pub fn remaining_count(k: u32) -> usize
 }
 
 // The side of the double v.
-pub fn side_of(a: Predicted, v: u64) -> u32
+fn side_of(a: Predicted, v: u64) -> u32
     ensures { λ r. ⌜ r ≡ side (a .fcm) (a .dfcm) v ⌝ }
 {
     if v ^ a.dfcm < v ^ a.fcm { 1 } else { 0 }

@@ -37,7 +37,9 @@ add-result c =
 
 returns : tie.Need-returns
 unfolding halfByte residualCode
-returns c = rw (c .zero-bytes-code .ensures, c .before .zero-bytes .ensures, c .before .before .residual-of .ensures, c .before .before .before .side-of .ensures)
+returns c =
+    let x = c .before .before in
+    rw (c .zero-bytes-code .ensures, c .before .zero-bytes .ensures, x .residual-of .ensures, x .before .side-of .ensures)
 
 pub half-of-spec : {M : Type 1} → statement M
 half-of-spec =
