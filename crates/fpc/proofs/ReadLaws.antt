@@ -35,7 +35,7 @@ tookFrom size s out n none = none
 tookFrom size s out n (some vs) = some (record { count = n + length vs; out = sets out n vs; f = after size s vs .f; d = after size s vs .d })
 
 -- one double, and then the rest
-pub took-one : (size : ℕ) (s : Predictors) (out : List ℕ) (n v : ℕ) (o : Option (List ℕ))
+took-one : (size : ℕ) (s : Predictors) (out : List ℕ) (n v : ℕ) (o : Option (List ℕ))
     → tookFrom size (update size s v) (set out n v) (n + 1) o ≡ tookFrom size s out n (Option·map (λ vs. v ∷ vs) o)
 took-one size s out n v none = refl
 took-one size s out n v (some vs) =
@@ -44,7 +44,7 @@ took-one size s out n v (some vs) =
     rw (p, q)
 
 -- a whole reading
-pub ran-as : (size : ℕ) (out : List ℕ) (o : Option (List ℕ)) (n : ℕ) (out′ f′ d′ : List ℕ)
+ran-as : (size : ℕ) (out : List ℕ) (o : Option (List ℕ)) (n : ℕ) (out′ f′ d′ : List ℕ)
     → some (record { count = n; out = out′; f = f′; d = d′ }) ≡ tookFrom size (startPredictors size) out 0 o → (r : Reply) → r .answer ≡ 0 → r .count ≡ n → RanAs size out o r out′ f′ d′
 unfolding tableF tableD
 ran-as size out none n out′ f′ d′ e r ea ec = absurd (let z : _≡_ {A = ℕ} 0 1 = cc in omega arith)
@@ -52,7 +52,7 @@ ran-as size out (some vs) n out′ f′ d′ e r ea ec =
     let t : _≡_ {A = RunRead} (record { count = n; out = out′; f = f′; d = d′ }) (record { count = 0 + length vs; out = sets out 0 vs; f = after size (startPredictors size) vs .f; d = after size (startPredictors size) vs .d }) = cc in
     (ea, ec ∙ ap (λ (x : RunRead). x .count) t ∙ zero-add (length vs), ap (λ (x : RunRead). x .out) t, record { f-is = ap (λ (x : RunRead). x .f) t; d-is = ap (λ (x : RunRead). x .d) t })
 
-pub ran-not : (size : ℕ) (out : List ℕ) (o : Option (List ℕ)) (out′ f′ d′ : List ℕ)
+ran-not : (size : ℕ) (out : List ℕ) (o : Option (List ℕ)) (out′ f′ d′ : List ℕ)
     → none ≡ tookFrom size (startPredictors size) out 0 o → (r : Reply) → r .answer ≡ 23 → r .count ≡ 0 → RanAs size out o r out′ f′ d′
 ran-not size out none out′ f′ d′ e r ea ec = (ea, ec)
 ran-not size out (some vs) out′ f′ d′ e r ea ec = absurd (let z : _≡_ {A = ℕ} 0 1 = cc in omega arith)
@@ -162,7 +162,7 @@ module _ (size : ℕ) (bytes out₀ f d : List ℕ) (p : Place) (out : List ℕ)
             let es′ : predictors f′ d′ q ≡ s′ = es ∙ rw (w .sized) in
             let k = pairsLeft (n + 2) in
             let more = first-of v (oddEnd (b % 16) (drop next bytes)) (stepOf (fcm s′) (dfcm s′) (b % 16) (drop next bytes))
-                (λ y. readPairs size k (update size s′ (y .double)) (drop (y .next) (drop next bytes))) in
+            (λ y. readPairs size k (update size s′ (y .double)) (drop (y .next) (drop next bytes))) in
             record {
               left =
                   ap₂ (λ (x : Predictors) (y : List ℕ). tookFrom size x y (n + 1) (secondLeft size x (b % 16) (drop next bytes) k)) es′ eo

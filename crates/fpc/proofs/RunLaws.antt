@@ -31,7 +31,7 @@ abbrev pub wroteFrom : ℕ → Predictors → List ℕ → ℕ → List ℕ → 
 wroteFrom size s out at vs = wrote out at (streamFrom size s vs) (after size s vs)
 
 -- one pair, and then the rest
-pub pair-first : (size : ℕ) (s : Predictors) (out : List ℕ) (at : ℕ) (v w : ℕ) (vs : List ℕ) (next : ℕ) (out′ : List ℕ) → Appended out at (pairBytes size s v w) next out′
+pair-first : (size : ℕ) (s : Predictors) (out : List ℕ) (at : ℕ) (v w : ℕ) (vs : List ℕ) (next : ℕ) (out′ : List ℕ) → Appended out at (pairBytes size s v w) next out′
     → wroteFrom size (update size (update size s v) w) out′ next vs ≡ wroteFrom size s out at (v ∷ w ∷ vs)
 pair-first size s out at v w vs next out′ r =
     let b = pairBytes size s v w in
@@ -40,19 +40,19 @@ pair-first size s out at v w vs next out′ r =
     rw (r .moved, r .put, l, sets-append out at b (streamFrom size s″ vs))
 
 -- the two doubles at a place, and the doubles after them
-pub drop-two : (vs : List ℕ) (i : ℕ) → i + 1 < length vs → drop i vs ≡ getD vs i 0 ∷ getD vs (i + 1) 0 ∷ drop (i + 2) vs
+drop-two : (vs : List ℕ) (i : ℕ) → i + 1 < length vs → drop i vs ≡ getD vs i 0 ∷ getD vs (i + 1) 0 ∷ drop (i + 2) vs
 drop-two vs i h =
     let p : i + 1 ≡ suc i = omega arith in
     let q : i + 2 ≡ suc (suc i) = omega arith in
     rw (p, q, drop-cons vs i 0 (omega arith), drop-cons vs (suc i) 0 (omega arith))
 
-pub drop-one : (vs : List ℕ) (i : ℕ) → i + 1 ≡ length vs → drop i vs ≡ getD vs i 0 ∷ []
+drop-one : (vs : List ℕ) (i : ℕ) → i + 1 ≡ length vs → drop i vs ≡ getD vs i 0 ∷ []
 drop-one vs i h =
     let q : suc i ≡ length vs = omega arith in
     rw (drop-cons vs i 0 (omega arith), q) (ap (λ (l : List ℕ). getD vs i 0 ∷ l) (drop-length vs))
 
 -- a whole run, written from the start
-pub whole-run : (size : ℕ) (vs out : List ℕ) (r : ℕ) (out′ f′ d′ : List ℕ) → record { next = r; out = out′; f = f′; d = d′ } ≡ wroteFrom size (startPredictors size) out 0 vs
+whole-run : (size : ℕ) (vs out : List ℕ) (r : ℕ) (out′ f′ d′ : List ℕ) → record { next = r; out = out′; f = f′; d = d′ } ≡ wroteFrom size (startPredictors size) out 0 vs
     → Appended out 0 (stream size vs) r out′ × Stand size vs f′ d′
 unfolding stream tableF tableD
 whole-run size vs out r out′ f′ d′ e =

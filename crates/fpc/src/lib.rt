@@ -1,5 +1,4 @@
 // FPC streams: document 01's "FPC stream", writer and reader.
-use fpc_stream::Step;
 use fpc_step::CodedDouble;
 use fpc_step::Place;
 use fpc_step::advance;
@@ -10,6 +9,7 @@ use fpc_step::read_step;
 use fpc_step::slices::byte;
 use fpc_step::slices::clear;
 use fpc_step::slices::put_double;
+use fpc_stream::Step;
 ghost use mathlib.Core.Path.{_≡_};
 ghost use mathlib.Core.Bool.{_&&_};
 ghost use lib.Dec.{eqb};

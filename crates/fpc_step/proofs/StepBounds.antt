@@ -39,7 +39,7 @@ module _ (s : Predictors) (half : ℕ) (stream : List ℕ) (at : ℕ) (r : Step)
       go none p e = absurd (let z : 0 ≡ 23 = ap (λ (a : Answer Found). a .number) e in omega arith)
       go (some x) p e =
           let f : _≡_ {A = Found} (record { double = v; next = next }) (record { double = x .double; next = at + x .next }) =
-              Option·some-injective _ _ (ap (λ (a : Answer Found). a .values) e) in
+          Option·some-injective _ _ (ap (λ (a : Answer Found). a .values) e) in
           let ev : v ≡ x .double = ap (λ (y : Found). y .double) f in
           let en : next ≡ at + x .next = ap (λ (y : Found). y .next) f in
           let a = accepted (fcm s) (dfcm s) half (drop at stream) x p in

@@ -18,7 +18,8 @@ module _ (s : Predictors) (half : ℕ) (bytes : List ℕ) (at : ℕ) where
   unfolding stepOf
   not-coded e = rw e
 
-  is-coded : coded (fcm s) (dfcm s) half bytes ≡ true → answerOf (Double (decoded (fcm s) (dfcm s) half bytes) (at + remainingCount (half % 8))) ≡ stepAnswer s half bytes at
+  is-coded : coded (fcm s) (dfcm s) half bytes ≡ true
+      → answerOf (Double (decoded (fcm s) (dfcm s) half bytes) (at + remainingCount (half % 8))) ≡ stepAnswer s half bytes at
   unfolding stepOf
   is-coded e = rw e
 
@@ -28,7 +29,8 @@ module _ (s : Predictors) (half : ℕ) (bytes : List ℕ) (at : ℕ) where
     unfolding coded
     byte-missing h = not-coded (rw (lt-leb (remainingCount (half % 8)) (length bytes) (rw en at h)))
 
-    module _ (fit : n ≤ length bytes) (x : ℕ) (ex : x ≡ fromBytes (take n bytes)) (p : ℕ) (ep : p ≡ prediction (fcm s) (dfcm s) (half / 8)) (k : ℕ) (ek : k ≡ halfByte (fcm s) (dfcm s) (bitXor x p)) where
+    module _ (fit : n ≤ length bytes) (x : ℕ) (ex : x ≡ fromBytes (take n bytes))
+        (p : ℕ) (ep : p ≡ prediction (fcm s) (dfcm s) (half / 8)) (k : ℕ) (ek : k ≡ halfByte (fcm s) (dfcm s) (bitXor x p)) where
       double-is : bitXor x p ≡ decoded (fcm s) (dfcm s) half bytes
       unfolding decoded
       double-is = rw (ex, ep, en)

@@ -37,13 +37,14 @@ put-pair-is out at a b m n o₁ o₂ o₃ em en e₁ e₂ e₃ =
     }
 
 -- what remains of a double's xor
-rest-is : (size : ℕ) (s : Predictors) (v : ℕ) (a : CodedDouble) (s′ : Predictors) → Encoded size s v a s′ → lowBytes (remainingCount (a .half % 8)) (a .xor) ≡ remainingAfter s v
+rest-is : (size : ℕ) (s : Predictors) (v : ℕ) (a : CodedDouble) (s′ : Predictors) → Encoded size s v a s′
+    → lowBytes (remainingCount (a .half % 8)) (a .xor) ≡ remainingAfter s v
 unfolding remaining
 rest-is size s v a s′ e = rw (e .half-is, e .xor-is, half-code (fcm s) (dfcm s) v)
 
 module _ (size : ℕ) (s : Predictors) (v : ℕ) (a : CodedDouble) (s₁ : Predictors) (ea : Encoded size s v a s₁) where
   -- the pair of the doubles v and w
-  pub pair-is : (w : ℕ) (b : CodedDouble) (s₂ : Predictors) → Encoded size s₁ w b s₂ → pairOf a b ≡ pairBytes size s v w
+  pair-is : (w : ℕ) (b : CodedDouble) (s₂ : Predictors) → Encoded size s₁ w b s₂ → pairOf a b ≡ pairBytes size s v w
   unfolding pairBytes
   pair-is w b s₂ eb = rw (rest-is size s v a s₁ ea, rest-is size s₁ w b s₂ eb, ea .half-is, eb .half-is, ea .next)
 
@@ -53,7 +54,8 @@ module _ (size : ℕ) (s : Predictors) (v : ℕ) (a : CodedDouble) (s₁ : Predi
   odd-is p = rw (rest-is size s v a s₁ ea, ea .half-is)
 
 -- after a double both hashes are places in the tables again, and the tables are of the size that they had
-module _ (f d : List ℕ) (p : Place) (w : Within f d p) (v : ℕ) (f′ d′ : List ℕ) (q : Place) (e : predictors f′ d′ q ≡ update (length f) (predictors f d p) v) where
+module _ (f d : List ℕ) (p : Place) (w : Within f d p) (v : ℕ) (f′ d′ : List ℕ) (q : Place)
+    (e : predictors f′ d′ q ≡ update (length f) (predictors f d p) v) where
   pub same-size : length f′ ≡ length f
   same-size = ap (λ (s : Predictors). length (s .f)) e ∙ simp length-set
 
@@ -75,7 +77,8 @@ pub pair-written : (f d : List ℕ) (p : Place) → Within f d p → (v w : ℕ)
     → Encoded (length f) (predictors f d p) v a (predictors f₁ d₁ (a .place))
     → Encoded (length f₁) (predictors f₁ d₁ (a .place)) w b (predictors f₂ d₂ (b .place))
     → (out : List ℕ) (at next : ℕ) (out′ : List ℕ) → Appended out at (pairOf a b) next out′
-    → Appended out at (pairBytes (length f) (predictors f d p) v w) next out′ × (predictors f₂ d₂ (b .place) ≡ update (length f) (update (length f) (predictors f d p) v) w)
+    → Appended out at (pairBytes (length f) (predictors f d p) v w) next out′
+    × (predictors f₂ d₂ (b .place) ≡ update (length f) (update (length f) (predictors f d p) v) w)
 pair-written f d p i v w a b f₁ d₁ f₂ d₂ ea eb out at next out′ r =
     let z = same-size f d p i v f₁ d₁ (a .place) (ea .next) in
     let eb′ = subst (λ (n : ℕ). Encoded n (predictors f₁ d₁ (a .place)) w b (predictors f₂ d₂ (b .place))) z eb in

@@ -3,9 +3,9 @@ pub mod slices;
 
 use fpc_stream::Predicted;
 use fpc_stream::Step;
-use fpc_stream::code::remaining_count;
 use fpc_stream::code::chosen;
 use fpc_stream::code::half_of;
+use fpc_stream::code::remaining_count;
 use fpc_stream::code::residual_of;
 use slices::put;
 use slices::put_bytes;
@@ -32,7 +32,7 @@ pub struct CodedDouble {
 }
 
 // Both predictions.
-pub fn predict(f: &[u64], d: &[u64], p: Place) -> Predicted
+fn predict(f: &[u64], d: &[u64], p: Place) -> Predicted
     requires { ⌜ Within (now f) (now d) p ⌝ }
     ensures { λ r. ⌜ r ≡ predicted (predictors (now (f .entry)) (now (d .entry)) p) ⌝ }
 {
@@ -64,7 +64,9 @@ pub fn advance(f: &mut [u64], d: &mut [u64], p: Place, v: u64) -> Place
 // The half byte and the xor of the double v; the tables and the place move past it.
 pub fn encode(f: &mut [u64], d: &mut [u64], p: Place, v: u64) -> CodedDouble
     requires { ⌜ Within (now f) (now d) p ⌝ }
-    ensures { λ r. ⌜ Encoded (length (now (f .entry))) (predictors (now (f .entry)) (now (d .entry)) p) v r (predictors (now (f .exit)) (now (d .exit)) (r .place)) ⌝ }
+    ensures { λ r. ⌜
+        Encoded (length (now (f .entry))) (predictors (now (f .entry)) (now (d .entry)) p) v
+        r (predictors (now (f .exit)) (now (d .exit)) (r .place)) ⌝ }
 {
     let a = predict(f, d, p);
     let q = advance(f, d, p, v);

@@ -63,7 +63,7 @@ zero-bytes-code-lt z h = go (ltb z 4) (ltb→lt z 4)
     go false l = omega arith
 
 -- codes are 0..7
-pub code-lt : (x : ℕ) → residualCode x < 8
+code-lt : (x : ℕ) → residualCode x < 8
 unfolding residualCode
 code-lt x = zero-bytes-code-lt (zeroBytes x) (zero-bytes-le x)
 

@@ -9,7 +9,7 @@ use Rattle.fpc_stream.specs.Reading.{mostDoubles}
 use Rattle.fpc_stream.proofs.CodeLaws.{bytes-le}
 use Rattle.fpc_stream.proofs.StepLaws.{length-remaining}
 
-pub rest-le : (s : Predictors) (v : ℕ) → length (remainingAfter s v) ≤ 8
+rest-le : (s : Predictors) (v : ℕ) → length (remainingAfter s v) ≤ 8
 rest-le s v = omega (arith, length-remaining (fcm s) (dfcm s) v, bytes-le (residualCode (residual (fcm s) (dfcm s) v)))
 
 -- a pair takes at most 17 bytes, and so does a last double with the odd end
@@ -19,11 +19,11 @@ pair-le size s v w =
     let s′ = update size s v in
     omega (arith, length-append (remainingAfter s v) (remainingAfter s′ w), rest-le s v, rest-le s′ w)
 
-pub odd-le : (s : Predictors) (v : ℕ) → length (oddBytes s v) ≤ 17
+odd-le : (s : Predictors) (v : ℕ) → length (oddBytes s v) ≤ 17
 unfolding oddBytes
 odd-le s v = omega (arith, length-append (remainingAfter s v) (oddByte ∷ []), rest-le s v)
 
-pub stream-from-le : (size : ℕ) (s : Predictors) (vs : List ℕ) → length (streamFrom size s vs) ≤ 17 * ((length vs + 1) / 2)
+stream-from-le : (size : ℕ) (s : Predictors) (vs : List ℕ) → length (streamFrom size s vs) ≤ 17 * ((length vs + 1) / 2)
 stream-from-le size s [] = omega arith
 stream-from-le size s (v ∷ []) = odd-le s v
 stream-from-le size s (v ∷ w ∷ vs) =

@@ -18,13 +18,13 @@ use Rattle.fpc_stream.proofs.Sound.{Sound, sound-start, sound-update, f
 use Rattle.fpc_stream.proofs.RoundTrip.{read-stream}
 
 -- the doubles vs, at most 2 k of them, whose stream from the predictors s the bytes are
-pub record Streamed (size k : ℕ) (s : Predictors) (bytes vs : List ℕ) : Type 0 where
+record Streamed (size k : ℕ) (s : Predictors) (bytes vs : List ℕ) : Type 0 where
   pub same : streamFrom size s vs ≡ bytes
   pub doubles : AllBelow (2 ^ 64) vs
   pub most : length vs ≤ 2 * k
 
 -- what was read, where something was read after it
-pub record Chained {A B : Type 0} (o : Option A) (more : A → Option B) (y : B) : Type 0 where
+record Chained {A B : Type 0} (o : Option A) (more : A → Option B) (y : B) : Type 0 where
   pub x : A
   pub found : o ≡ some x
   pub then : more x ≡ some y
@@ -91,7 +91,7 @@ module _ (size k : ℕ) (s : Predictors) (sound : Sound s) (b : ℕ) (bytes : Li
         let w = y .double in
         let p : 16 * halfAfter s v + halfAfter s′ w ≡ b = rw (← taken .same-half, ← taken′ .same-half) halves in
         let q : (remainingAfter s v ++ remainingAfter s′ w) ++ streamFrom size (update size s′ w) vs ≡ bytes =
-            rw (append-assoc (remainingAfter s v) (remainingAfter s′ w) _, r .same, ← taken′ .same-bytes) (sym (taken .same-bytes)) in
+        rw (append-assoc (remainingAfter s v) (remainingAfter s′ w) _, r .same, ← taken′ .same-bytes) (sym (taken .same-bytes)) in
         record {
           same = ap₂ (λ (x : ℕ) (xs : List ℕ). x ∷ xs) p q;
           doubles = cons-below (2 ^ 64) v (w ∷ vs) (taken .double) (cons-below (2 ^ 64) w vs (taken′ .double) (r .doubles));
@@ -122,7 +122,7 @@ empty-streamed size k s vs e =
     let z : vs ≡ [] = cc in
     rw z (record { same = refl; doubles = nil-below (2 ^ 64) (lit< tt); most = omega arith })
 
-pub pairs-back : (size k : ℕ) (s : Predictors) (bytes vs : List ℕ) → Sound s → AllBelow 256 bytes
+pairs-back : (size k : ℕ) (s : Predictors) (bytes vs : List ℕ) → Sound s → AllBelow 256 bytes
     → readPairs size k s bytes ≡ some vs → Streamed size k s bytes vs
 pairs-back size zero s [] vs sound h e = empty-streamed size zero s vs e
 pairs-back size zero s (b ∷ bytes) vs sound h e = absurd (let z : _≡_ {A = ℕ} 0 1 = cc in omega arith)
@@ -136,14 +136,14 @@ pairs-back size (suc k) s (b ∷ bytes) vs sound h e =
     vs _ refl (t .then)
 
 -- what was read is a run whose defined stream the bytes are
-pub read-is-stream : (size : ℕ) (bytes vs : List ℕ) → AllBelow 256 bytes → read size bytes ≡ some vs → IsStream size bytes vs
+read-is-stream : (size : ℕ) (bytes vs : List ℕ) → AllBelow 256 bytes → read size bytes ≡ some vs → IsStream size bytes vs
 unfolding read stream
 read-is-stream size bytes vs h e =
     let r = pairs-back size (mostDoubles / 2) (startPredictors size) bytes vs (sound-start size) h e in
     record { same = r .same; doubles = r .doubles; most = r .most }
 
 -- and every such run is read
-pub stream-is-read : (size : ℕ) (bytes vs : List ℕ) → IsStream size bytes vs → read size bytes ≡ some vs
+stream-is-read : (size : ℕ) (bytes vs : List ℕ) → IsStream size bytes vs → read size bytes ≡ some vs
 stream-is-read size bytes vs r = rw (← r .same) (read-stream size vs (r .doubles) (r .most))
 
 -- document 01's row 23: nothing is read exactly when the bytes are not the stream, for this size, of any run of at most 4,096 doubles

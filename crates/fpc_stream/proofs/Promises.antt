@@ -69,7 +69,7 @@ written-is-read f d f′ d′ vs out doubles e good′ size h room′ =
     let w = write-done f d vs (a .0) (a .1) out (a .2) in
     let t : take (length s) (s ++ drop (length s) out) ≡ s = take-at s (drop (length s) out) (length s) refl in
     let r : fpcReadOutcome f′ d′ (stream (length f) vs) doubles ≡ done (length f) vs vs doubles =
-        rw (← size) (read-done f′ d′ vs good′ (a .1) doubles h room′) in
+    rw (← size) (read-done f′ d′ vs good′ (a .1) doubles h room′) in
     rw (w, t) r
 
 -- document 01's row 23: tables and input are good, and the bytes are not the stream, for these tables' size, of any run of at most 4,096 doubles

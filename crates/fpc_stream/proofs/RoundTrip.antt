@@ -35,7 +35,7 @@ module _ (f d v : ℕ) (tail : List ℕ) (hf : f < 2 ^ 64) (hd : d < 2 ^ 64) (hv
       omega (arith, code-zero)
 
   -- no double is taken for the odd end
-  pub no-odd-end : oddEnd (halfByte f d v) (remaining f d v ++ tail) ≡ false
+  no-odd-end : oddEnd (halfByte f d v) (remaining f d v ++ tail) ≡ false
   no-odd-end = not-so (oddEnd (halfByte f d v) bytes) never
     where
       not-so : (b : Bool) → (b ≡ true → ⊥) → b ≡ false
@@ -63,7 +63,7 @@ module _ (s : Predictors) (v : ℕ) (sound : Sound s) (hv : v < 2 ^ 64) (tail : 
   double-no-end = no-odd-end (fcm s) (dfcm s) v tail (fcm-lt s sound) (dfcm-lt s) hv
 
 -- at most 2 k doubles come back, whatever the predictors they start from
-pub read-stream-from : (size k : ℕ) (s : Predictors) (vs : List ℕ) → Sound s → AllBelow (2 ^ 64) vs → length vs ≤ 2 * k
+read-stream-from : (size k : ℕ) (s : Predictors) (vs : List ℕ) → Sound s → AllBelow (2 ^ 64) vs → length vs ≤ 2 * k
     → readPairs size k s (streamFrom size s vs) ≡ some vs
 unfolding pairBytes oddBytes
 read-stream-from size zero s [] sound h l = refl
@@ -83,8 +83,17 @@ read-stream-from size (suc k) s (v ∷ w ∷ vs) sound h l =
     let tail = streamFrom size (update size s′ w) vs in
     let ih = read-stream-from size k (update size s′ w) vs (sound-update size s′ w (h 1) sound′) (λ i. h (suc (suc i))) (omega arith) in
     let more = remainingAfter s′ w ++ tail in
-    rw (append-assoc (remainingAfter s v) (remainingAfter s′ w) tail, hi, lo, double-right s v sound (h 0) more, double-rest s v sound (h 0) more,
-    double-no-end s′ w sound′ (h 1) tail, double-right s′ w sound′ (h 1) tail, double-rest s′ w sound′ (h 1) tail, ih)
+    rw (
+      append-assoc (remainingAfter s v) (remainingAfter s′ w) tail,
+      hi,
+      lo,
+      double-right s v sound (h 0) more,
+      double-rest s v sound (h 0) more,
+      double-no-end s′ w sound′ (h 1) tail,
+      double-right s′ w sound′ (h 1) tail,
+      double-rest s′ w sound′ (h 1) tail,
+      ih,
+    )
 
 -- the defined stream of a run of at most 4,096 doubles, read with the same table size, is that run
 pub read-stream : (size : ℕ) (vs : List ℕ) → AllBelow (2 ^ 64) vs → length vs ≤ mostDoubles → read size (stream size vs) ≡ some vs

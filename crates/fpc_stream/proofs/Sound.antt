@@ -8,14 +8,14 @@ use Rattle.words.specs.Word.{plus}
 use Rattle.fpc_stream.specs.Predictors.{Predictors, startPredictors, fcm, dfcm, update, AllBelow}
 
 -- a store keeps every number below n
-pub set-below : (n : ℕ) (l : List ℕ) (k v : ℕ) → v < n → AllBelow n l → AllBelow n (set l k v)
+set-below : (n : ℕ) (l : List ℕ) (k v : ℕ) → v < n → AllBelow n l → AllBelow n (set l k v)
 set-below n [] k v hv h i = h i
 set-below n (x ∷ l) zero v hv h zero = hv
 set-below n (x ∷ l) zero v hv h (suc i) = h (suc i)
 set-below n (x ∷ l) (suc k) v hv h zero = h zero
 set-below n (x ∷ l) (suc k) v hv h (suc i) = set-below n l k v hv (λ j. h (suc j)) i
 
-pub zeros-below : (n size : ℕ) → 0 < n → AllBelow n (replicate size 0)
+zeros-below : (n size : ℕ) → 0 < n → AllBelow n (replicate size 0)
 zeros-below n zero h i = h
 zeros-below n (suc size) h zero = h
 zeros-below n (suc size) h (suc i) = zeros-below n size h i

@@ -1,11 +1,31 @@
 -- `fpc_step::put_pair` meets its contract: one byte and two runs of bytes, each from where the one before it ended. Assumes nothing.
-use Prim.Native.Nat.{_%_}
+use Prim.Native.Nat.{_%_, _≤_}
 use native.Mathlib.Omega.{arith}
 use borrow.Author.Needs.{needs}
 use Rattle.fpc_step.proofs.WriteLaws.{put-pair-is}
 use Rattle.fpc_stream.proofs.CodeLaws.{bytes-le}
 use Rattle.fpc_step.proofs.put_pair.Statement.{statement}
 use Rattle.fpc_step.proofs.put_pair.Tie as tie
+
+-- the places that the answers below go back to: the entry and both counts, seen from the writes after them
+abbrev entry : tie.After-remaining-count → tie.Start
+entry c = c .before .before .before
+
+abbrev counted : tie.After-put → tie.After-remaining-count2
+counted c = c .before .before .before .before
+
+abbrev byte-put : tie.After-put-bytes → tie.After-put
+byte-put c = c .before .before .before .before
+
+abbrev first-put : tie.After-put-bytes2 → tie.After-put-bytes
+first-put c = c .before .before .before .before
+
+-- at most eight bytes remain of each double
+first-few : (c : tie.After-remaining-count) → c .remaining-count .result ≤ 8
+first-few c = omega (arith, c .remaining-count .ensures, bytes-le (entry c .args .a .half % 8))
+
+second-few : (c : tie.After-remaining-count2) → c .remaining-count2 .result ≤ 8
+second-few c = omega (arith, c .remaining-count2 .ensures, bytes-le (entry (c .before .before) .args .b .half % 8))
 
 remaining-count-requires : tie.Need-remaining-count-requires
 remaining-count-requires c κs = search needs
@@ -30,41 +50,36 @@ add-put-bytes c = search needs
 
 put-bytes-requires : tie.Need-put-bytes-requires
 put-bytes-requires c κs =
-    let m = c .before .before .before .before .before .before .before .before .before in
-    let a = m .before .before .before .args in
-    (omega (arith, m .before .before .before .pre), omega (arith, m .remaining-count .ensures, bytes-le (a .a .half % 8)))
+    let m = counted (c .before .before .before) .before .before in
+    (omega (arith, entry m .pre), first-few m)
 
 add-put-bytes-2 : tie.Need-add-put-bytes-2
 add-put-bytes-2 c = search needs
 
 add-put-bytes-3 : tie.Need-add-put-bytes-3
 add-put-bytes-3 c =
-    let m = c .before .before .before .before .before .before .before .before .before .before .before .before .before in
-    omega (arith, m .before .before .before .pre, m .remaining-count .ensures, bytes-le (m .before .before .before .args .a .half % 8))
+    let m = counted (byte-put (c .before .before .before)) .before .before in
+    omega (arith, entry m .pre, first-few m)
 
 put-bytes-requires-2 : tie.Need-put-bytes-requires-2
 put-bytes-requires-2 c κs =
-    let n = c .before .before .before .before .before .before .before .before .before .before .before in
+    let n = counted (byte-put (c .before .before .before)) in
     let m = n .before .before in
-    let a = m .before .before .before .args in (
-      omega (arith, m .before .before .before .pre, m .remaining-count .ensures, bytes-le (a .a .half % 8)),
-      omega (arith, n .remaining-count2 .ensures, bytes-le (a .b .half % 8)),
-    )
+    (omega (arith, entry m .pre, first-few m), second-few n)
 
 add-result : tie.Need-add-result
 add-result c = search needs
 
 add-result-2 : tie.Need-add-result-2
 add-result-2 c =
-    let m = c .before .before .before .before .before .before .before .before .before .before .before .before .before .before .before .before in
-    omega (arith, m .before .before .before .pre, m .remaining-count .ensures, bytes-le (m .before .before .before .args .a .half % 8))
+    let m = counted (byte-put (first-put (c .before .before))) .before .before in
+    omega (arith, entry m .pre, first-few m)
 
 add-result-3 : tie.Need-add-result-3
 add-result-3 c =
-    let n = c .before .before .before .before .before .before .before .before .before .before .before .before .before .before in
+    let n = counted (byte-put (first-put (c .before .before))) in
     let m = n .before .before in
-    let a = m .before .before .before .args in
-    omega (arith, m .before .before .before .pre, m .remaining-count .ensures, n .remaining-count2 .ensures, bytes-le (a .a .half % 8), bytes-le (a .b .half % 8))
+    omega (arith, entry m .pre, first-few m, second-few n)
 
 same-length : tie.Need-same-length
 same-length c = search needs
@@ -72,12 +87,15 @@ same-length c = search needs
 returns : tie.Need-returns
 returns c =
     let z = c .before .before in
-    let y = z .before .before .before .before in
-    let x = y .before .before .before .before in
-    let n = x .before .before .before .before in
+    let y = first-put z in
+    let x = byte-put y in
+    let n = counted x in
     let m = n .before .before in
-    let a = m .before .before .before .args in
-    put-pair-is (a .out .now) (a .at) (a .a) (a .b) (m .remaining-count .result) (n .remaining-count2 .result) (x .put .last .0) (y .put-bytes .last .0) (z .put-bytes2 .last .0)
+    let a = entry m .args in
+    put-pair-is (a .out .now) (a .at) (a .a) (a .b) (m .remaining-count .result) (n .remaining-count2 .result)
+    (x .put .last .0)
+    (y .put-bytes .last .0)
+    (z .put-bytes2 .last .0)
     (m .remaining-count .ensures)
     (n .remaining-count2 .ensures)
     (x .put .ensures)

@@ -1,4 +1,5 @@
--- `fpc_step::slices::put_bytes` meets its contract. The invariant: writing what is left of the number from here gives what writing all of it from the start gives. Assumes nothing.
+-- `fpc_step::slices::put_bytes` meets its contract. The invariant: writing what is left of the number from here gives what writing
+-- all of it from the start gives. Assumes nothing.
 use mathlib.Core.Path.{_≡_, refl, _∙_}
 use Prim.Native.Nat.{_+_, _-_, _≤_}
 use native.Mathlib.Nat.{add-zero, sub-zero}

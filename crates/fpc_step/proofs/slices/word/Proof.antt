@@ -1,6 +1,6 @@
 -- `fpc_step::slices::word` meets its contract. The invariant: `x` is the number of the bytes from `at + i` on. Assumes nothing.
 use mathlib.Core.Path.{_≡_, _∙_}
-use Prim.Native.Nat.{_+_, _-_, _≤_}
+use Prim.Native.Nat.{_+_, _-_, _^_, _≤_, _<_}
 use native.Mathlib.Omega.{arith}
 use native.Mathlib.Nat.{sub-zero, add-zero}
 use lib.ListN.{take, drop}
@@ -16,6 +16,19 @@ Inv-loop s at n i₀ x₀ i x = (i ≤ n) × (x ≡ fromBytes (take (n - i) (dro
 abbrev μ-loop : tie.MeasureT-loop
 μ-loop s at n i₀ x₀ i x = i
 
+-- the entry, seen from the loop's head
+abbrev entry : tie.At-loop Inv-loop μ-loop → tie.Start Inv-loop μ-loop
+entry c = c .before .before
+
+-- what was read so far leaves room for one byte more
+small : (c : tie.In-loop Inv-loop μ-loop) → c .before .loop .x < 2 ^ 56
+small c =
+    let s = entry (c .before) in
+    let a = s .args in
+    let l = c .before .loop in
+    taken-lt (a .s .now) (a .at) (a .n) (l .i) (l .x) (c .loop-test .taken) (l .inv .0) (s .pre .0) (l .inv .1) (s .pre .1)
+    (λ j. c .before .before .shared-slice-known .given j .fits)
+
 loop-holds : tie.Need-loop-holds Inv-loop μ-loop
 loop-holds c = let z : c .before .args .n - c .before .args .n ≡ 0 = omega arith in (omega arith, rw z)
 
@@ -23,10 +36,7 @@ sub-i : tie.Need-sub-i Inv-loop μ-loop
 sub-i c = omega arith
 
 mul-x : tie.Need-mul-x Inv-loop μ-loop
-mul-x c =
-    let s = c .before .before .before in
-    let l = c .before .loop in
-    omega (arith, taken-lt (s .args .s .now) (s .args .at) (s .args .n) (l .i) (l .x) (c .loop-test .taken) (l .inv .0) (s .pre .0) (l .inv .1) (s .pre .1) (λ j. c .before .before .shared-slice-known .given j .fits))
+mul-x c = omega (arith, small c)
 
 add-wide : tie.Need-add-wide Inv-loop μ-loop
 add-wide c = omega arith
@@ -39,23 +49,19 @@ wide-requires c κs = search needs
 
 add-x : tie.Need-add-x Inv-loop μ-loop
 add-x c =
-    let s = c .before .before .before .before .before in
-    let l = c .before .before .before .loop in
-    omega (
-      arith,
-      c .wide .ensures,
-      c .before .shared-slice-known2 .given (s .args .at + (l .i - 1)),
-      taken-lt (s .args .s .now) (s .args .at) (s .args .n) (l .i) (l .x) (c .before .before .loop-test .taken) (l .inv .0) (s .pre .0) (l .inv .1) (s .pre .1) (λ j. c .before .shared-slice-known2 .given j .fits),
-    )
+    let t = c .before .before in
+    omega (arith, c .wide .ensures, c .before .shared-slice-known2 .given (entry (t .before) .args .at + (t .before .loop .i - 1)), small t)
 
 loop-less : tie.Need-loop-less Inv-loop μ-loop
 loop-less c = omega arith
 
 loop-again : tie.Need-loop-again Inv-loop μ-loop
 loop-again c =
-    let s = c .before .before .before .before .before in
-    let l = c .before .before .before .loop in
-    (omega arith, rw (c .wide .ensures) (take-turn (s .args .s .now) (s .args .at) (s .args .n) (l .i) (l .x) (c .before .before .loop-test .taken) (l .inv .0) (s .pre .0) (l .inv .1)))
+    let t = c .before .before in
+    let l = t .before .loop in
+    let s = entry (t .before) in
+    let a = s .args in
+    (omega arith, rw (c .wide .ensures) (take-turn (a .s .now) (a .at) (a .n) (l .i) (l .x) (t .loop-test .taken) (l .inv .0) (s .pre .0) (l .inv .1)))
 
 returns : tie.Need-returns Inv-loop μ-loop
 returns c =
