@@ -73,7 +73,10 @@ returns c =
     (q .result)
     (q .last .0)
     (q .last .1 .0)
-    (cleared (size r) (w .last .0) (w .last .1 .0) 22 (w .result) (q .result) (q .last .0) (q .last .1 .0) (w .kept .0) (w .kept .1 .0 ∙ entry r .pre .0 .same) (q .ensures))
+    (cleared (size r) (w .last .0) (w .last .1 .0) 22 (w .result) (q .result) (q .last .0) (q .last .1 .0)
+    (w .kept .0)
+    (w .kept .1 .0 ∙ entry r .pre .0 .same)
+    (q .ensures))
 
 write-run-requires-2 : tie.Need-write-run-requires-2
 write-run-requires-2 c κs = search needs

@@ -40,7 +40,9 @@ returns c =
     let s = x .before .before .before .before .before .before in
     let a = s .args in
     let e = x .encode .ensures in
-    let o = odd-is (length (a .f .now)) (predictors (a .f .now) (a .d .now) (a .p)) (a .v) (x .encode .result) (predictors (x .encode .last .0) (x .encode .last .1 .0) (x .encode .result .place)) e (a .p) in (
+    let w = x .encode in
+    let s₁ = predictors (w .last .0) (w .last .1 .0) (w .result .place) in
+    let o = odd-is (length (a .f .now)) (predictors (a .f .now) (a .d .now) (a .p)) (a .v) (w .result) s₁ e (a .p) in (
       subst (λ (l : List ℕ). Appended (a .out .now) (a .at) l (z .put-pair .result) (z .put-pair .last .0)) o (z .put-pair .ensures),
       (ap (λ (t : Predictors). t .f) (e .next), ap (λ (t : Predictors). t .d) (e .next)),
     )
