@@ -28,8 +28,10 @@ pub record ClearedAt (size answer count : ℕ) (r : Reply) (f d : List ℕ) : Ty
   pub f-zero : f ≡ replicate size 0
   pub d-zero : d ≡ replicate size 0
 
-pub cleared : (size : ℕ) (f d : List ℕ) (answer count : ℕ) (r : Reply) (f′ d′ : List ℕ) → length f ≡ size → length d ≡ size → Refused f d answer count r f′ d′ → ClearedAt size answer count r f′ d′
-cleared size f d answer count r f′ d′ lf ld q = record { answer-is = q .answer-is; count-is = q .count-is; f-zero = rw lf at (q .f-zero); d-zero = rw ld at (q .d-zero) }
+pub cleared : (size : ℕ) (f d : List ℕ) (answer count : ℕ) (r : Reply) (f′ d′ : List ℕ) → length f ≡ size → length d ≡ size
+    → Refused f d answer count r f′ d′ → ClearedAt size answer count r f′ d′
+cleared size f d answer count r f′ d′ lf ld q =
+    record { answer-is = q .answer-is; count-is = q .count-is; f-zero = rw lf at (q .f-zero); d-zero = rw ld at (q .d-zero) }
 
 module _ (size : ℕ) (vs result out part : List ℕ) (n : ℕ) (empty : length part ≡ 0) (count : n ≡ length result) where
   -- row 22: the room is too small, and the tables were cleared
@@ -51,8 +53,8 @@ module _ (size : ℕ) (vs result out part : List ℕ) (n : ℕ) (empty : length 
       rw (le-ltb _ _ l, s, count, t .f-is, t .d-is)
 
 -- the rows of a reading that was first made with no room: 23, then 22, then done
-module _ (size : ℕ) (out part : List ℕ) (empty : length part ≡ 0) (room : List ℕ) (o : Option (List ℕ)) (r : Reply) (f₁ d₁ : List ℕ) (ran : RanAs size room o r part f₁ d₁)
-    (r′ : Reply) (f′ d′ : List ℕ) where
+module _ (size : ℕ) (out part : List ℕ) (empty : length part ≡ 0) (room : List ℕ) (o : Option (List ℕ))
+    (r : Reply) (f₁ d₁ : List ℕ) (ran : RanAs size room o r part f₁ d₁) (r′ : Reply) (f′ d′ : List ℕ) where
   pub read-23 : (r .answer ≡ 0 → ⊥) → ClearedAt size 23 0 r′ f′ d′ → outcome r′ (part ++ out) f′ d′ ≡ readInto size out o
   read-23 h q = go o ran
     where

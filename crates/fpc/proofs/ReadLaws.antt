@@ -34,6 +34,10 @@ abbrev pub tookFrom : ℕ → Predictors → List ℕ → ℕ → Option (List �
 tookFrom size s out n none = none
 tookFrom size s out n (some vs) = some (record { count = n + length vs; out = sets out n vs; f = after size s vs .f; d = after size s vs .d })
 
+-- the doubles of the whole stream
+abbrev pub tookAll : ℕ → List ℕ → Option (List ℕ) → Option RunRead
+tookAll size out o = tookFrom size (startPredictors size) out 0 o
+
 -- one double, and then the rest
 took-one : (size : ℕ) (s : Predictors) (out : List ℕ) (n v : ℕ) (o : Option (List ℕ))
     → tookFrom size (update size s v) (set out n v) (n + 1) o ≡ tookFrom size s out n (Option·map (λ vs. v ∷ vs) o)
@@ -45,15 +49,22 @@ took-one size s out n v (some vs) =
 
 -- a whole reading
 ran-as : (size : ℕ) (out : List ℕ) (o : Option (List ℕ)) (n : ℕ) (out′ f′ d′ : List ℕ)
-    → some (record { count = n; out = out′; f = f′; d = d′ }) ≡ tookFrom size (startPredictors size) out 0 o → (r : Reply) → r .answer ≡ 0 → r .count ≡ n → RanAs size out o r out′ f′ d′
+    → some (record { count = n; out = out′; f = f′; d = d′ }) ≡ tookAll size out o
+    → (r : Reply) → r .answer ≡ 0 → r .count ≡ n → RanAs size out o r out′ f′ d′
 unfolding tableF tableD
 ran-as size out none n out′ f′ d′ e r ea ec = absurd (let z : _≡_ {A = ℕ} 0 1 = cc in omega arith)
 ran-as size out (some vs) n out′ f′ d′ e r ea ec =
-    let t : _≡_ {A = RunRead} (record { count = n; out = out′; f = f′; d = d′ }) (record { count = 0 + length vs; out = sets out 0 vs; f = after size (startPredictors size) vs .f; d = after size (startPredictors size) vs .d }) = cc in
-    (ea, ec ∙ ap (λ (x : RunRead). x .count) t ∙ zero-add (length vs), ap (λ (x : RunRead). x .out) t, record { f-is = ap (λ (x : RunRead). x .f) t; d-is = ap (λ (x : RunRead). x .d) t })
+    let all = after size (startPredictors size) vs in
+    let t : _≡_ {A = RunRead} (record { count = n; out = out′; f = f′; d = d′ })
+    (record { count = 0 + length vs; out = sets out 0 vs; f = all .f; d = all .d }) = cc in (
+      ea,
+      ec ∙ ap (λ (x : RunRead). x .count) t ∙ zero-add (length vs),
+      ap (λ (x : RunRead). x .out) t,
+      record { f-is = ap (λ (x : RunRead). x .f) t; d-is = ap (λ (x : RunRead). x .d) t },
+    )
 
 ran-not : (size : ℕ) (out : List ℕ) (o : Option (List ℕ)) (out′ f′ d′ : List ℕ)
-    → none ≡ tookFrom size (startPredictors size) out 0 o → (r : Reply) → r .answer ≡ 23 → r .count ≡ 0 → RanAs size out o r out′ f′ d′
+    → none ≡ tookAll size out o → (r : Reply) → r .answer ≡ 23 → r .count ≡ 0 → RanAs size out o r out′ f′ d′
 ran-not size out none out′ f′ d′ e r ea ec = (ea, ec)
 ran-not size out (some vs) out′ f′ d′ e r ea ec = absurd (let z : _≡_ {A = ℕ} 0 1 = cc in omega arith)
 
@@ -63,7 +74,7 @@ pairsLeft n = (mostDoubles - n) / 2
 
 -- where the reader stands after n doubles: at a place of the stream, between two pairs
 pub record Reading (size : ℕ) (bytes out₀ f d : List ℕ) (p : Place) (out : List ℕ) (at n : ℕ) : Type 0 where
-  pub left : tookFrom size (predictors f d p) out n (readPairs size (pairsLeft n) (predictors f d p) (drop at bytes)) ≡ tookFrom size (startPredictors size) out₀ 0 (read size bytes)
+  pub left : tookFrom size (predictors f d p) out n (readPairs size (pairsLeft n) (predictors f d p) (drop at bytes)) ≡ tookAll size out₀ (read size bytes)
   pub within : Within f d p
   pub sized : length f ≡ size
   pub room : length out ≡ length out₀
@@ -91,7 +102,8 @@ first-of v false (some y) more = go (more y)
 
 -- where the reader stands after the first double of a pair; n doubles came before the pair
 pub record Halfway (size : ℕ) (bytes out₀ f d : List ℕ) (p : Place) (out : List ℕ) (lo at n : ℕ) : Type 0 where
-  pub left : tookFrom size (predictors f d p) out (n + 1) (secondLeft size (predictors f d p) lo (drop at bytes) (pairsLeft (n + 2))) ≡ tookFrom size (startPredictors size) out₀ 0 (read size bytes)
+  pub left : tookFrom size (predictors f d p) out (n + 1) (secondLeft size (predictors f d p) lo (drop at bytes) (pairsLeft (n + 2)))
+      ≡ tookAll size out₀ (read size bytes)
   pub within : Within f d p
   pub sized : length f ≡ size
   pub room : length out ≡ length out₀
@@ -122,8 +134,8 @@ module _ (size : ℕ) (bytes out₀ f d : List ℕ) (p : Place) (out : List ℕ)
       let a : n + 0 ≡ n = add-zero n in
       ran-as size out₀ (read size bytes) n out f d (ended (pairsLeft n) a (rw z at (w .left))) r ea ec
     where
-      ended : (k : ℕ) → n + 0 ≡ n → tookFrom size (predictors f d p) out n (readPairs size k (predictors f d p) []) ≡ tookFrom size (startPredictors size) out₀ 0 (read size bytes)
-          → some (record { count = n; out = out; f = f; d = d }) ≡ tookFrom size (startPredictors size) out₀ 0 (read size bytes)
+      ended : (k : ℕ) → n + 0 ≡ n → tookFrom size (predictors f d p) out n (readPairs size k (predictors f d p) []) ≡ tookAll size out₀ (read size bytes)
+          → some (record { count = n; out = out; f = f; d = d }) ≡ tookAll size out₀ (read size bytes)
       ended zero a e = rw a at e
       ended (suc k) a e = rw a at e
 
@@ -143,7 +155,7 @@ module _ (size : ℕ) (bytes out₀ f d : List ℕ) (p : Place) (out : List ℕ)
       one-more = omega (arith, w .pairs, w .most, room-left)
 
       pair-left : tookFrom size (predictors f d p) out n (readPairs size (suc (pairsLeft (n + 2))) (predictors f d p) (b ∷ drop (at + 1) bytes))
-          ≡ tookFrom size (startPredictors size) out₀ 0 (read size bytes)
+          ≡ tookAll size out₀ (read size bytes)
       pair-left = rw (first-byte, one-more, ← eb) at (w .left)
 
       module _ (r : Step) (st : answerOf r ≡ stepAnswer (predictors f d p) (b / 16) (drop (at + 1) bytes) (at + 1)) where
@@ -153,7 +165,8 @@ module _ (size : ℕ) (bytes out₀ f d : List ℕ) (p : Place) (out : List ℕ)
             ran-not size out₀ (read size bytes) out f d (rw (bad (predictors f d p) (b / 16) bytes (at + 1) r st e) at pair-left) reply ea ec
 
         -- the first double of the pair
-        pub first-double : (v next : ℕ) → r ≡ Double v next → (f′ d′ : List ℕ) (q : Place) → predictors f′ d′ q ≡ update (length f) (predictors f d p) v → (out′ : List ℕ) → out′ ≡ set out n v
+        pub first-double : (v next : ℕ) → r ≡ Double v next → (f′ d′ : List ℕ) (q : Place)
+            → predictors f′ d′ q ≡ update (length f) (predictors f d p) v → (out′ : List ℕ) → out′ ≡ set out n v
             → Halfway size bytes out₀ f′ d′ q out′ (b % 16) next n
         first-double v next e f′ d′ q es out′ eo =
             let s = predictors f d p in
@@ -188,7 +201,7 @@ module _ (size : ℕ) (bytes out₀ f d : List ℕ) (p : Place) (out : List ℕ)
     double-left : tookFrom size (predictors f d p) out (n + 1)
         (andThen (stepOf (fcm (predictors f d p)) (dfcm (predictors f d p)) lo (drop at bytes)) (λ y.
         Option·map (λ vs. y .double ∷ vs) (readPairs size (pairsLeft (n + 2)) (update size (predictors f d p) (y .double)) (drop (y .next) (drop at bytes)))))
-        ≡ tookFrom size (startPredictors size) out₀ 0 (read size bytes)
+        ≡ tookAll size out₀ (read size bytes)
     double-left = rw even at (w .left)
 
     pub second-bad : r ≡ Bad → (reply : Reply) → reply .answer ≡ 23 → reply .count ≡ 0 → RanAs size out₀ (read size bytes) reply out f d
@@ -196,7 +209,8 @@ module _ (size : ℕ) (bytes out₀ f d : List ℕ) (p : Place) (out : List ℕ)
         ran-not size out₀ (read size bytes) out f d (rw (bad (predictors f d p) lo bytes at r st e) at double-left) reply ea ec
 
     -- the second double, and the pair is whole
-    pub second-double : (v next : ℕ) → r ≡ Double v next → (f′ d′ : List ℕ) (q : Place) → predictors f′ d′ q ≡ update (length f) (predictors f d p) v → (out′ : List ℕ) → out′ ≡ set out (n + 1) v
+    pub second-double : (v next : ℕ) → r ≡ Double v next → (f′ d′ : List ℕ) (q : Place)
+        → predictors f′ d′ q ≡ update (length f) (predictors f d p) v → (out′ : List ℕ) → out′ ≡ set out (n + 1) v
         → Reading size bytes out₀ f′ d′ q out′ next (n + 2)
     second-double v next e f′ d′ q es out′ eo =
         let s = predictors f d p in

@@ -31,12 +31,14 @@ abbrev pub wroteFrom : ℕ → Predictors → List ℕ → ℕ → List ℕ → 
 wroteFrom size s out at vs = wrote out at (streamFrom size s vs) (after size s vs)
 
 -- one pair, and then the rest
-pair-first : (size : ℕ) (s : Predictors) (out : List ℕ) (at : ℕ) (v w : ℕ) (vs : List ℕ) (next : ℕ) (out′ : List ℕ) → Appended out at (pairBytes size s v w) next out′
+pair-first : (size : ℕ) (s : Predictors) (out : List ℕ) (at : ℕ) (v w : ℕ) (vs : List ℕ) (next : ℕ) (out′ : List ℕ)
+    → Appended out at (pairBytes size s v w) next out′
     → wroteFrom size (update size (update size s v) w) out′ next vs ≡ wroteFrom size s out at (v ∷ w ∷ vs)
 pair-first size s out at v w vs next out′ r =
     let b = pairBytes size s v w in
     let s″ = update size (update size s v) w in
-    let l : at + length b + length (streamFrom size s″ vs) ≡ at + length (b ++ streamFrom size s″ vs) = omega (arith, length-append b (streamFrom size s″ vs)) in
+    let l : at + length b + length (streamFrom size s″ vs) ≡ at + length (b ++ streamFrom size s″ vs) =
+    omega (arith, length-append b (streamFrom size s″ vs)) in
     rw (r .moved, r .put, l, sets-append out at b (streamFrom size s″ vs))
 
 -- the two doubles at a place, and the doubles after them
@@ -52,11 +54,14 @@ drop-one vs i h =
     rw (drop-cons vs i 0 (omega arith), q) (ap (λ (l : List ℕ). getD vs i 0 ∷ l) (drop-length vs))
 
 -- a whole run, written from the start
-whole-run : (size : ℕ) (vs out : List ℕ) (r : ℕ) (out′ f′ d′ : List ℕ) → record { next = r; out = out′; f = f′; d = d′ } ≡ wroteFrom size (startPredictors size) out 0 vs
+whole-run : (size : ℕ) (vs out : List ℕ) (r : ℕ) (out′ f′ d′ : List ℕ)
+    → record { next = r; out = out′; f = f′; d = d′ } ≡ wroteFrom size (startPredictors size) out 0 vs
     → Appended out 0 (stream size vs) r out′ × Stand size vs f′ d′
 unfolding stream tableF tableD
-whole-run size vs out r out′ f′ d′ e =
-    (record { moved = ap (λ (w : RunWritten). w .next) e; put = ap (λ (w : RunWritten). w .out) e }, record { f-is = ap (λ (w : RunWritten). w .f) e; d-is = ap (λ (w : RunWritten). w .d) e })
+whole-run size vs out r out′ f′ d′ e = (
+  record { moved = ap (λ (w : RunWritten). w .next) e; put = ap (λ (w : RunWritten). w .out) e },
+  record { f-is = ap (λ (w : RunWritten). w .f) e; d-is = ap (λ (w : RunWritten). w .d) e },
+)
 
 -- where the writer stands after i doubles of the run vs
 pub record Writing (size : ℕ) (vs out₀ f d : List ℕ) (p : Place) (out : List ℕ) (at i : ℕ) : Type 0 where
@@ -112,10 +117,13 @@ module _ (size : ℕ) (vs out₀ f d : List ℕ) (p : Place) (out : List ℕ) (a
   writing-done h =
       let z : drop i vs ≡ [] = drop-of-length-le vs h in
       let a : at + 0 ≡ at = add-zero at in
-      whole-run size vs out₀ at out f d (ap (λ (n : ℕ). record { next = n; out = out; f = f; d = d }) (sym a) ∙ ap (wroteFrom size (predictors f d p) out at) (sym z) ∙ w .left)
+      whole-run size vs out₀ at out f d
+      (ap (λ (n : ℕ). record { next = n; out = out; f = f; d = d }) (sym a) ∙ ap (wroteFrom size (predictors f d p) out at) (sym z) ∙ w .left)
 
   pub writing-odd : i + 1 ≡ length vs → (r : ℕ) (out′ f′ d′ : List ℕ)
       → Appended out at (oddBytes (predictors f d p) (getD vs i 0)) r out′
       → (f′ ≡ update (length f) (predictors f d p) (getD vs i 0) .f) × (d′ ≡ update (length f) (predictors f d p) (getD vs i 0) .d)
       → Appended out₀ 0 (stream size vs) r out′ × Stand size vs f′ d′
-  writing-odd h r out′ f′ d′ o e = whole-run size vs out₀ r out′ f′ d′ (rw (o .moved, o .put, e .0, e .1) (ap (wroteFrom size (predictors f d p) out at) (sym (drop-one vs i h)) ∙ w .left))
+  writing-odd h r out′ f′ d′ o e =
+      whole-run size vs out₀ r out′ f′ d′
+      (rw (o .moved, o .put, e .0, e .1) (ap (wroteFrom size (predictors f d p) out at) (sym (drop-one vs i h)) ∙ w .left))
