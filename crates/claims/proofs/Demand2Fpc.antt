@@ -29,7 +29,8 @@ one-run-a-stream = stream-injective
 
 -- demand 1, row 23: tables and input are good, and the bytes are "not the stream, for these tables' size, of any run of at most 4,096 doubles"
 pub answered-23 : (f d bytes doubles : List ℕ) → AllBelow 256 bytes
-    → (fpcReadOutcome f d bytes doubles .answer ≡ 23) ↔ ((goodTables f d ≡ true) × (length bytes ≤ mostBytes) × ((vs : List ℕ) → IsStream (length f) bytes vs → ⊥))
+    → (fpcReadOutcome f d bytes doubles .answer ≡ 23)
+    ↔ ((goodTables f d ≡ true) × (length bytes ≤ mostBytes) × ((vs : List ℕ) → IsStream (length f) bytes vs → ⊥))
 answered-23 = answer-23
 
 -- nothing is changed, and the count is 0

@@ -23,12 +23,13 @@ pub record Answer (A : Type 0) : Type 0 where
   pub number : ℕ
   pub values : Option A
 
--- what was read, a double or a run, is answered 0; where nothing was read, the bytes are no stream: 23
+-- document 01's number and values of what a reading gave, a double or a run: 0 with what was read; or, where nothing could be read, 23 with nothing.
+-- The contracts of the step and of the run and the outcome of the call say their answers by it
 abbrev pub answered : {A : Type 0} → Option A → Answer A
 answered (some x) = record { number = 0; values = some x }
 answered none = record { number = 23; values = none }
 
--- document 01's number and values for each case of the step's enum
+-- and so for each case of the step's enum
 abbrev pub answerOf : Step → Answer Found
 answerOf (Double v next) = answered (some (record { double = v; next = next }))
 answerOf Bad = answered none

@@ -7,7 +7,7 @@ pub struct Predicted {
     pub dfcm: u64,
 }
 
-// What one step of reading answers: the double and the next place, or bad.
+// What one step of reading answers: the double and the next place, or bad. `answerOf` of specs/Reading.antt has document 01's number and values for each case.
 pub enum Step {
     Double(u64, usize),
     Bad,
