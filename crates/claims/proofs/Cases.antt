@@ -15,10 +15,10 @@ use Rattle.floats.specs.Integer.{signed, toInteger, scaled, toPattern, whole}
 use Rattle.codec.specs.Head.{planesNeeded, exactPlanes}
 use Rattle.codec.specs.Code.{lossyIntegers, lossyFloats, exactIntegers, exactFloats, definedCode}
 use Rattle.codec.specs.Read.{readIntegers, readLossyFloats, readExactFloats, readCode}
-use Rattle.predict.specs.Predictors.{side, fcmHash, dfcmHash}
-use Rattle.predict.specs.Stream.{zeroBytes, residual, code, halfByte, remaining, pairBytes, oddBytes, stream}
-use Rattle.predict.specs.Reading.{decoded, coded, stepOf, read}
-use Rattle.predict.specs.Outcome.{goodSize, goodTables, delivered, readOutcome}
+use Rattle.fpc_stream.specs.Predictors.{side, fcmHash, dfcmHash}
+use Rattle.fpc_stream.specs.Stream.{zeroBytes, residual, residualCode, halfByte, remaining, pairBytes, oddBytes, stream}
+use Rattle.fpc_stream.specs.Reading.{decoded, coded, stepOf, read}
+use Rattle.fpc_stream.specs.Outcome.{goodSize, goodTables, delivered, fpcReadOutcome}
 use Rattle.bits.specs.Stream.{write}
 use Rattle.params.specs.Width.{slotsIn}
 use Rattle.slots.specs.Rules.{codeOf}
@@ -33,7 +33,8 @@ unfoldable computed : ℕ
 unfolding plus minus half twiceLess nega unnega flip planeCode planeNext planesCode readPlane readNext readWords lift unlift differ undiffer along reorder restore coefficients values
     toInteger toPattern signed scaled whole ofBits toBits round planesNeeded exactPlanes lossyIntegers lossyFloats exactIntegers exactFloats definedCode
     readIntegers readExactFloats readLossyFloats readCode slotsIn codeOf write storeOutcome
-    leadingZeros side fcmHash dfcmHash zeroBytes residual code halfByte remaining pairBytes oddBytes stream decoded coded stepOf read goodSize goodTables delivered readOutcome
+    leadingZeros side fcmHash dfcmHash zeroBytes residual residualCode halfByte remaining pairBytes oddBytes stream decoded coded stepOf read
+    goodSize goodTables delivered fpcReadOutcome
     flatMap hexDigit digitValue wellFormed parametersOf firstAnswer answerLine slotBytes storedLine blockLine
 computed = 0
 

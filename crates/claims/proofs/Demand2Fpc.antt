@@ -8,20 +8,19 @@ use Prim.Native.Nat.{ℕ, _^_, _≤_}
 use native.Mathlib.Omega.{arith}
 use lib.Dec.{ltb}
 use lib.ListN.{length, take, drop, replicate}
-use Rattle.predict.specs.Predictors.{AllBelow}
-use Rattle.predict.specs.Stream.{stream}
-use Rattle.predict.specs.Reading.{read, mostDoubles}
-use Rattle.predict.specs.Outcome.{Outcome, goodTables, mostBytes, unchanged, zeroed, done, delivered, writeOutcome, readInto, readOutcome}
-use Rattle.predict.proofs.RoundTrip.{stream-injective}
-use Rattle.predict.proofs.OnlyStreams.{IsStream}
-use Rattle.predict.proofs.Rows.{good-tables}
-use Rattle.predict.proofs.Promises.{written-is-read, answer-23}
+use Rattle.fpc_stream.specs.Predictors.{AllBelow}
+use Rattle.fpc_stream.specs.Stream.{stream}
+use Rattle.fpc_stream.specs.Reading.{read, mostDoubles, IsStream}
+use Rattle.fpc_stream.specs.Outcome.{Outcome, goodTables, mostBytes, unchanged, zeroed, done, delivered, fpcWriteOutcome, readInto, fpcReadOutcome}
+use Rattle.fpc_stream.proofs.RoundTrip.{stream-injective}
+use Rattle.fpc_stream.proofs.Rows.{good-tables}
+use Rattle.fpc_stream.proofs.Promises.{written-is-read, answer-23}
 
 -- demand 2: whenever the writer answers 0, the reader, lent tables of the same size and room, answers 0, gives the same doubles back bit for bit, and leaves the tables as the writer left them
-pub run-comes-back : (f d f′ d′ vs out doubles : List ℕ) → writeOutcome f d vs out .answer ≡ 0 → goodTables f′ d′ ≡ true → length f′ ≡ length f
+pub run-comes-back : (f d f′ d′ vs out doubles : List ℕ) → fpcWriteOutcome f d vs out .answer ≡ 0 → goodTables f′ d′ ≡ true → length f′ ≡ length f
     → AllBelow (2 ^ 64) vs → length vs ≤ length doubles
-    → readOutcome f′ d′ (take (writeOutcome f d vs out .count) (writeOutcome f d vs out .out)) doubles
-    ≡ record { answer = 0; count = length vs; out = vs ++ drop (length vs) doubles; f = writeOutcome f d vs out .f; d = writeOutcome f d vs out .d }
+    → fpcReadOutcome f′ d′ (take (fpcWriteOutcome f d vs out .count) (fpcWriteOutcome f d vs out .out)) doubles
+    ≡ record { answer = 0; count = length vs; out = vs ++ drop (length vs) doubles; f = fpcWriteOutcome f d vs out .f; d = fpcWriteOutcome f d vs out .d }
 run-comes-back = written-is-read
 
 -- demand 2: two runs with one stream are equal
@@ -30,7 +29,8 @@ one-run-a-stream = stream-injective
 
 -- demand 1, row 23: tables and input are good, and the bytes are "not the stream, for these tables' size, of any run of at most 4,096 doubles"
 pub answered-23 : (f d bytes doubles : List ℕ) → AllBelow 256 bytes
-    → (readOutcome f d bytes doubles .answer ≡ 23) ↔ ((goodTables f d ≡ true) × (length bytes ≤ mostBytes) × ((vs : List ℕ) → IsStream (length f) bytes vs → ⊥))
+    → (fpcReadOutcome f d bytes doubles .answer ≡ 23)
+    ↔ ((goodTables f d ≡ true) × (length bytes ≤ mostBytes) × ((vs : List ℕ) → IsStream (length f) bytes vs → ⊥))
 answered-23 = answer-23
 
 -- nothing is changed, and the count is 0
@@ -106,8 +106,8 @@ module _ (out f d : List ℕ) where
         go false = record { after-20 = λ e. absurd (omega arith); after-21 = λ e. absurd (omega arith); after-22 = λ e. absurd (omega arith); after-23 = λ e. absurd (omega arith) }
 
 -- demand 1: what a refused write leaves
-pub write-refusals : (f d vs out : List ℕ) → Refusals (writeOutcome f d vs out) out f d
-unfolding writeOutcome
+pub write-refusals : (f d vs out : List ℕ) → Refusals (fpcWriteOutcome f d vs out) out f d
+unfolding fpcWriteOutcome
 write-refusals f d vs out = go (goodTables f d) refl (ltb mostDoubles (length vs))
   where
     go : (g : Bool) → goodTables f d ≡ g → (l : Bool)
@@ -117,8 +117,8 @@ write-refusals f d vs out = go (goodTables f d) refl (ltb mostDoubles (length vs
     go true e false = delivers out f d e vs (stream (length f) vs)
 
 -- demand 1: what a refused read leaves
-pub read-refusals : (f d bytes doubles : List ℕ) → Refusals (readOutcome f d bytes doubles) doubles f d
-unfolding readOutcome
+pub read-refusals : (f d bytes doubles : List ℕ) → Refusals (fpcReadOutcome f d bytes doubles) doubles f d
+unfolding fpcReadOutcome
 read-refusals f d bytes doubles = go (goodTables f d) refl (ltb mostBytes (length bytes)) (read (length f) bytes)
   where
     go : (g : Bool) → goodTables f d ≡ g → (l : Bool) (o : Option (List ℕ))

@@ -6,21 +6,21 @@ use Prim.Native.Nat.{ℕ, _^_, _≤_}
 use native.Mathlib.Omega.{arith}
 use lib.ListN.{length, take, drop, length-append}
 use borrow.Author.Tests.{eq-eqb, ne-eqb}
-use Rattle.predict.specs.Predictors.{AllBelow}
-use Rattle.predict.specs.Stream.{stream}
-use Rattle.predict.specs.Outcome.{Outcome, goodTables, done, writeOutcome, readOutcome}
-use Rattle.predict.proofs.Promises.{write-answers-0, write-done}
+use Rattle.fpc_stream.specs.Predictors.{AllBelow}
+use Rattle.fpc_stream.specs.Stream.{stream}
+use Rattle.fpc_stream.specs.Outcome.{Outcome, goodTables, done, fpcWriteOutcome, fpcReadOutcome}
+use Rattle.fpc_stream.proofs.Promises.{write-answers-0, write-done}
 use Rattle.fpc.specs.declared.Reply.{Reply}
 use Rattle.fpc.specs.Calls.{outcome}
 use Rattle.claims.specs.Runs.{thereAndBack}
 use Rattle.claims.proofs.Demand2Fpc.{run-comes-back}
 
-module _ (f d vs out : List ℕ) (w : Reply) (out₁ f₁ d₁ : List ℕ) (wrote : outcome w out₁ f₁ d₁ ≡ writeOutcome f d vs out) where
-  answer-is : w .answer ≡ writeOutcome f d vs out .answer
+module _ (f d vs out : List ℕ) (w : Reply) (out₁ f₁ d₁ : List ℕ) (wrote : outcome w out₁ f₁ d₁ ≡ fpcWriteOutcome f d vs out) where
+  answer-is : w .answer ≡ fpcWriteOutcome f d vs out .answer
   answer-is = ap (λ (o : Outcome). o .answer) wrote
 
   -- what the buffer holds
-  pub buffer-is : out₁ ≡ writeOutcome f d vs out .out
+  pub buffer-is : out₁ ≡ fpcWriteOutcome f d vs out .out
   buffer-is = ap (λ (o : Outcome). o .out) wrote
 
   -- a refusal, passed on
@@ -29,10 +29,10 @@ module _ (f d vs out : List ℕ) (w : Reply) (out₁ f₁ d₁ : List ℕ) (wrot
   passed-on h back = rw (ne-eqb _ 0 (λ e. h (answer-is ∙ e))) (ap (λ (o : Outcome). record { answer = o .answer; count = o .count; out = back; f = o .f; d = o .d }) wrote)
 
   module _ (fine : w .answer ≡ 0) where
-    fine′ : writeOutcome f d vs out .answer ≡ 0
+    fine′ : fpcWriteOutcome f d vs out .answer ≡ 0
     fine′ = sym answer-is ∙ fine
 
-    written : writeOutcome f d vs out ≡ done (length f) vs (stream (length f) vs) out
+    written : fpcWriteOutcome f d vs out ≡ done (length f) vs (stream (length f) vs) out
     written =
         let a = write-answers-0 f d vs out fine′ in
         write-done f d vs (a .0) (a .1) out (a .2)
@@ -49,11 +49,11 @@ module _ (f d vs out : List ℕ) (w : Reply) (out₁ f₁ d₁ : List ℕ) (wrot
 
     -- and what is read of them is the run
     pub comes-back : length f₁ ≡ length f → length d₁ ≡ length d → AllBelow (2 ^ 64) vs → (back : List ℕ) → length vs ≤ length back
-        → readOutcome f₁ d₁ (take (w .count) out₁) back ≡ thereAndBack f d vs out back
+        → fpcReadOutcome f₁ d₁ (take (w .count) out₁) back ≡ thereAndBack f d vs out back
     unfolding goodTables done thereAndBack
     comes-back lf ld h back room =
         let good : goodTables f₁ d₁ ≡ true = rw (lf, ld) (write-answers-0 f d vs out fine′ .0) in
         rw (eq-eqb _ 0 fine′)
-        (ap₂ (λ (n : ℕ) (l : List ℕ). readOutcome f₁ d₁ (take n l) back) (ap (λ (o : Outcome). o .count) wrote) buffer-is
+        (ap₂ (λ (n : ℕ) (l : List ℕ). fpcReadOutcome f₁ d₁ (take n l) back) (ap (λ (o : Outcome). o .count) wrote) buffer-is
         ∙ run-comes-back f d f₁ d₁ vs out back fine′ good lf h room
         ∙ rw written)

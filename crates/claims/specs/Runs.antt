@@ -4,11 +4,11 @@ use mathlib.Core.List.{List}
 use Prim.Native.Nat.{ℕ}
 use lib.Dec.{eqb}
 use lib.ListN.{length}
-use Rattle.predict.specs.Outcome.{Outcome, done, writeOutcome}
+use Rattle.fpc_stream.specs.Outcome.{Outcome, done, fpcWriteOutcome}
 
 -- a writer that answers 0: the doubles are back, the answer is 0, and the tables stand as after the last double; any other answer is passed on, and nothing is read
 unfoldable pub thereAndBack : List ℕ → List ℕ → List ℕ → List ℕ → List ℕ → Outcome
-unfolding done writeOutcome
+unfolding done fpcWriteOutcome
 thereAndBack f d doubles buf back =
-    let w = writeOutcome f d doubles buf in
+    let w = fpcWriteOutcome f d doubles buf in
     cond (eqb (w .answer) 0) (done (length f) doubles doubles back) (record { answer = w .answer; count = w .count; out = back; f = w .f; d = w .d })

@@ -12,8 +12,8 @@ use Rattle.planes.specs.Reader.{readWords}
 use Rattle.codec.specs.Code.{definedCode}
 use Rattle.codec.specs.Read.{readCode}
 use Rattle.slots.specs.Outcome.{storeOutcome}
-use Rattle.predict.specs.Stream.{stream}
-use Rattle.predict.specs.Outcome.{zeroed, readOutcome}
+use Rattle.fpc_stream.specs.Stream.{stream}
+use Rattle.fpc_stream.specs.Outcome.{zeroed, fpcReadOutcome}
 use Rattle.frames.specs.Listing.{listing}
 use Rattle.claims.specs.Text.{text, line}
 
@@ -104,7 +104,7 @@ P11 =
 
 -- P12: "FPC 66 00 00 is 23", here with tables of 16, whatever room is lent
 abbrev pub P12 : Type 0
-P12 = (room : List ℕ) → readOutcome (replicate 16 0) (replicate 16 0) (0x66 ∷ 0x00 ∷ 0x00 ∷ []) room ≡ zeroed 23 0 16 room
+P12 = (room : List ℕ) → fpcReadOutcome (replicate 16 0) (replicate 16 0) (0x66 ∷ 0x00 ∷ 0x00 ∷ []) room ≡ zeroed 23 0 16 room
 
 -- four leading zero bytes count as three
 abbrev pub FourAsThree : Type 0

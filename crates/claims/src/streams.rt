@@ -2,7 +2,7 @@
 ghost use mathlib.Core.Path.{_≡_};
 ghost use Prim.Native.Nat.{_≤_};
 ghost use lib.ListN.{length};
-ghost use Rattle.predict.specs.Outcome.{writeOutcome};
+ghost use Rattle.fpc_stream.specs.Outcome.{fpcWriteOutcome};
 ghost use Rattle.fpc.specs.Calls.{outcome};
 ghost use Rattle.claims.specs.Runs.{thereAndBack};
 
@@ -17,7 +17,7 @@ pub fn run_there_and_back(
 ) -> fpc::Reply
     requires { ⌜ length (now doubles) ≤ length (now back) ⌝ }
     ensures { λ r. ⌜ outcome r (now (back .exit)) (now (f .exit)) (now (d .exit)) ≡ thereAndBack (now (f .entry)) (now (d .entry)) (now (doubles .entry)) (now (buf .entry)) (now (back .entry)) ⌝ }
-    ensures { λ _. ⌜ now (buf .exit) ≡ writeOutcome (now (f .entry)) (now (d .entry)) (now (doubles .entry)) (now (buf .entry)) .out ⌝ }
+    ensures { λ _. ⌜ now (buf .exit) ≡ fpcWriteOutcome (now (f .entry)) (now (d .entry)) (now (doubles .entry)) (now (buf .entry)) .out ⌝ }
 {
     let w = fpc::fpc_write(f, d, doubles, buf);
     if w.answer != 0 {

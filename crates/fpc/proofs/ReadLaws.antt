@@ -1,6 +1,6 @@
 -- Reading the rest of a stream from where it stands gives what reading the whole stream from the start gives. Assumes nothing.
-use mathlib.Core.Path.{_≡_, refl, ap, ap₂, _∙_}
-use mathlib.Core.Bool.{true, false, cond}
+use mathlib.Core.Path.{_≡_, refl, sym, ap, ap₂, _∙_}
+use mathlib.Core.Bool.{Bool, true, false, cond}
 use mathlib.Core.List.{List, [], _∷_}
 use mathlib.Core.Option.{Option, none, some, Option·map}
 use Prim.Native.Nat.{ℕ, zero, suc, _+_, _-_, _/_, _%_, _≤_, _<_}
@@ -9,32 +9,37 @@ use native.Mathlib.Numerals.{add-one}
 use native.Mathlib.Omega.{arith}
 use lib.ListN.{length, drop, getD, set, replicate, length-set, drop-of-length-le}
 use lib.Seq.{sets, drop-cons}
-use Rattle.steps.specs.declared.Place.{Place}
+use Rattle.fpc_step.specs.declared.Place.{Place}
 use Rattle.fpc.specs.declared.Reply.{Reply}
-use Rattle.predict.specs.declared.Step.{Step}
-use Rattle.predict.specs.declared.Step.the-variants.{Double, Bad}
-use Rattle.predict.specs.Predictors.{Predictors, start, update, after, Tables}
-use Rattle.predict.specs.Stream.{tableF, tableD}
-use Rattle.predict.specs.Reading.{oddEnd, doubleThen, pairThen, readPairs, mostDoubles, read}
-use Rattle.steps.specs.Calls.{Within, predictors, Stepped}
+use Rattle.fpc_stream.specs.declared.Step.{Step}
+use Rattle.fpc_stream.specs.declared.Step.the-variants.{Double, Bad}
+use Rattle.fpc_stream.specs.Predictors.{Predictors, startPredictors, fcm, dfcm, update, after}
+use Rattle.fpc_stream.specs.Calls.{Tables}
+use Rattle.fpc_stream.specs.Stream.{tableF, tableD}
+use Rattle.fpc_stream.specs.Reading.{Found, answerOf, stepOf, oddEnd, andThen, readPairs, mostDoubles, read}
+use Rattle.fpc_step.specs.Calls.{Within, predictors, stepAnswer}
 use Rattle.fpc.specs.Calls.{RanAs}
-use Rattle.steps.proofs.WriteLaws.{start-is, start-within, same-size, within-next}
-use Rattle.steps.proofs.StepBounds.{bad, onward}
+use Rattle.fpc_step.proofs.WriteLaws.{start-is, start-within, same-size, within-next}
+use Rattle.fpc_step.proofs.StepBounds.{bad, onward}
 
 -- what reading leaves: how many doubles, the output and both tables
-pub record Took : Type 0 where
+pub record RunRead : Type 0 where
   pub count : ℕ
   pub out : List ℕ
   pub f : List ℕ
   pub d : List ℕ
 
 -- the doubles read after the predictors s, written from place n on
-abbrev pub tookFrom : ℕ → Predictors → List ℕ → ℕ → Option (List ℕ) → Option Took
+abbrev pub tookFrom : ℕ → Predictors → List ℕ → ℕ → Option (List ℕ) → Option RunRead
 tookFrom size s out n none = none
 tookFrom size s out n (some vs) = some (record { count = n + length vs; out = sets out n vs; f = after size s vs .f; d = after size s vs .d })
 
+-- the doubles of the whole stream
+abbrev pub tookAll : ℕ → List ℕ → Option (List ℕ) → Option RunRead
+tookAll size out o = tookFrom size (startPredictors size) out 0 o
+
 -- one double, and then the rest
-pub took-one : (size : ℕ) (s : Predictors) (out : List ℕ) (n v : ℕ) (o : Option (List ℕ))
+took-one : (size : ℕ) (s : Predictors) (out : List ℕ) (n v : ℕ) (o : Option (List ℕ))
     → tookFrom size (update size s v) (set out n v) (n + 1) o ≡ tookFrom size s out n (Option·map (λ vs. v ∷ vs) o)
 took-one size s out n v none = refl
 took-one size s out n v (some vs) =
@@ -43,16 +48,23 @@ took-one size s out n v (some vs) =
     rw (p, q)
 
 -- a whole reading
-pub ran-as : (size : ℕ) (out : List ℕ) (o : Option (List ℕ)) (n : ℕ) (out′ f′ d′ : List ℕ)
-    → some (record { count = n; out = out′; f = f′; d = d′ }) ≡ tookFrom size (start size) out 0 o → (r : Reply) → r .answer ≡ 0 → r .count ≡ n → RanAs size out o r out′ f′ d′
+ran-as : (size : ℕ) (out : List ℕ) (o : Option (List ℕ)) (n : ℕ) (out′ f′ d′ : List ℕ)
+    → some (record { count = n; out = out′; f = f′; d = d′ }) ≡ tookAll size out o
+    → (r : Reply) → r .answer ≡ 0 → r .count ≡ n → RanAs size out o r out′ f′ d′
 unfolding tableF tableD
 ran-as size out none n out′ f′ d′ e r ea ec = absurd (let z : _≡_ {A = ℕ} 0 1 = cc in omega arith)
 ran-as size out (some vs) n out′ f′ d′ e r ea ec =
-    let t : _≡_ {A = Took} (record { count = n; out = out′; f = f′; d = d′ }) (record { count = 0 + length vs; out = sets out 0 vs; f = after size (start size) vs .f; d = after size (start size) vs .d }) = cc in
-    (ea, ec ∙ ap (λ (x : Took). x .count) t ∙ zero-add (length vs), ap (λ (x : Took). x .out) t, record { f-is = ap (λ (x : Took). x .f) t; d-is = ap (λ (x : Took). x .d) t })
+    let all = after size (startPredictors size) vs in
+    let t : _≡_ {A = RunRead} (record { count = n; out = out′; f = f′; d = d′ })
+    (record { count = 0 + length vs; out = sets out 0 vs; f = all .f; d = all .d }) = cc in (
+      ea,
+      ec ∙ ap (λ (x : RunRead). x .count) t ∙ zero-add (length vs),
+      ap (λ (x : RunRead). x .out) t,
+      record { f-is = ap (λ (x : RunRead). x .f) t; d-is = ap (λ (x : RunRead). x .d) t },
+    )
 
-pub ran-not : (size : ℕ) (out : List ℕ) (o : Option (List ℕ)) (out′ f′ d′ : List ℕ)
-    → none ≡ tookFrom size (start size) out 0 o → (r : Reply) → r .answer ≡ 23 → r .count ≡ 0 → RanAs size out o r out′ f′ d′
+ran-not : (size : ℕ) (out : List ℕ) (o : Option (List ℕ)) (out′ f′ d′ : List ℕ)
+    → none ≡ tookAll size out o → (r : Reply) → r .answer ≡ 23 → r .count ≡ 0 → RanAs size out o r out′ f′ d′
 ran-not size out none out′ f′ d′ e r ea ec = (ea, ec)
 ran-not size out (some vs) out′ f′ d′ e r ea ec = absurd (let z : _≡_ {A = ℕ} 0 1 = cc in omega arith)
 
@@ -62,7 +74,7 @@ pairsLeft n = (mostDoubles - n) / 2
 
 -- where the reader stands after n doubles: at a place of the stream, between two pairs
 pub record Reading (size : ℕ) (bytes out₀ f d : List ℕ) (p : Place) (out : List ℕ) (at n : ℕ) : Type 0 where
-  pub left : tookFrom size (predictors f d p) out n (readPairs size (pairsLeft n) (predictors f d p) (drop at bytes)) ≡ tookFrom size (start size) out₀ 0 (read size bytes)
+  pub left : tookFrom size (predictors f d p) out n (readPairs size (pairsLeft n) (predictors f d p) (drop at bytes)) ≡ tookAll size out₀ (read size bytes)
   pub within : Within f d p
   pub sized : length f ≡ size
   pub room : length out ≡ length out₀
@@ -72,11 +84,26 @@ pub record Reading (size : ℕ) (bytes out₀ f d : List ℕ) (p : Place) (out :
 
 -- what is left of a pair whose first double was read
 abbrev pub secondLeft : ℕ → Predictors → ℕ → List ℕ → ℕ → Option (List ℕ)
-secondLeft size s lo bytes k = cond (oddEnd lo bytes) (some []) (doubleThen size s lo bytes (readPairs size k))
+secondLeft size s lo bytes k =
+    cond (oddEnd lo bytes) (some [])
+    (andThen (stepOf (fcm s) (dfcm s) lo bytes) (λ y. Option·map (λ vs. y .double ∷ vs) (readPairs size k (update size s (y .double)) (drop (y .next) bytes))))
+
+-- a pair is its first double and what is left of it
+first-of : (v : ℕ) (odd : Bool) (o : Option Found) (more : Found → Option (List ℕ))
+    → cond odd (some (v ∷ [])) (andThen o (λ y. Option·map (λ vs. v ∷ y .double ∷ vs) (more y)))
+    ≡ Option·map (λ vs. v ∷ vs) (cond odd (some []) (andThen o (λ y. Option·map (λ vs. y .double ∷ vs) (more y))))
+first-of v true o more = refl
+first-of v false none more = refl
+first-of v false (some y) more = go (more y)
+  where
+    go : (m : Option (List ℕ)) → Option·map (λ (vs : List ℕ). v ∷ y .double ∷ vs) m ≡ Option·map (λ vs. v ∷ vs) (Option·map (λ vs. y .double ∷ vs) m)
+    go none = refl
+    go (some vs) = refl
 
 -- where the reader stands after the first double of a pair; n doubles came before the pair
 pub record Halfway (size : ℕ) (bytes out₀ f d : List ℕ) (p : Place) (out : List ℕ) (lo at n : ℕ) : Type 0 where
-  pub left : tookFrom size (predictors f d p) out (n + 1) (secondLeft size (predictors f d p) lo (drop at bytes) (pairsLeft (n + 2))) ≡ tookFrom size (start size) out₀ 0 (read size bytes)
+  pub left : tookFrom size (predictors f d p) out (n + 1) (secondLeft size (predictors f d p) lo (drop at bytes) (pairsLeft (n + 2)))
+      ≡ tookAll size out₀ (read size bytes)
   pub within : Within f d p
   pub sized : length f ≡ size
   pub room : length out ≡ length out₀
@@ -107,8 +134,8 @@ module _ (size : ℕ) (bytes out₀ f d : List ℕ) (p : Place) (out : List ℕ)
       let a : n + 0 ≡ n = add-zero n in
       ran-as size out₀ (read size bytes) n out f d (ended (pairsLeft n) a (rw z at (w .left))) r ea ec
     where
-      ended : (k : ℕ) → n + 0 ≡ n → tookFrom size (predictors f d p) out n (readPairs size k (predictors f d p) []) ≡ tookFrom size (start size) out₀ 0 (read size bytes)
-          → some (record { count = n; out = out; f = f; d = d }) ≡ tookFrom size (start size) out₀ 0 (read size bytes)
+      ended : (k : ℕ) → n + 0 ≡ n → tookFrom size (predictors f d p) out n (readPairs size k (predictors f d p) []) ≡ tookAll size out₀ (read size bytes)
+          → some (record { count = n; out = out; f = f; d = d }) ≡ tookAll size out₀ (read size bytes)
       ended zero a e = rw a at e
       ended (suc k) a e = rw a at e
 
@@ -127,34 +154,34 @@ module _ (size : ℕ) (bytes out₀ f d : List ℕ) (p : Place) (out : List ℕ)
       one-more : pairsLeft n ≡ suc (pairsLeft (n + 2))
       one-more = omega (arith, w .pairs, w .most, room-left)
 
-      pair-left : tookFrom size (predictors f d p) out n (pairThen size (predictors f d p) (b / 16) (b % 16) (drop (at + 1) bytes) (readPairs size (pairsLeft (n + 2))))
-          ≡ tookFrom size (start size) out₀ 0 (read size bytes)
+      pair-left : tookFrom size (predictors f d p) out n (readPairs size (suc (pairsLeft (n + 2))) (predictors f d p) (b ∷ drop (at + 1) bytes))
+          ≡ tookAll size out₀ (read size bytes)
       pair-left = rw (first-byte, one-more, ← eb) at (w .left)
 
-      module _ (r : Step) (st : Stepped (predictors f d p) (b / 16) (drop (at + 1) bytes) (at + 1) r) where
-        second : Predictors → List ℕ → Option (List ℕ)
-        second s rest = secondLeft size s (b % 16) rest (pairsLeft (n + 2))
-
+      module _ (r : Step) (st : answerOf r ≡ stepAnswer (predictors f d p) (b / 16) (drop (at + 1) bytes) (at + 1)) where
         -- no double
         pub first-bad : r ≡ Bad → (reply : Reply) → reply .answer ≡ 23 → reply .count ≡ 0 → RanAs size out₀ (read size bytes) reply out f d
-        unfolding second
         first-bad e reply ea ec =
-            ran-not size out₀ (read size bytes) out f d (rw (bad size (predictors f d p) (b / 16) bytes (at + 1) r st e second) at pair-left) reply ea ec
+            ran-not size out₀ (read size bytes) out f d (rw (bad (predictors f d p) (b / 16) bytes (at + 1) r st e) at pair-left) reply ea ec
 
         -- the first double of the pair
-        pub first-double : (v next : ℕ) → r ≡ Double v next → (f′ d′ : List ℕ) (q : Place) → predictors f′ d′ q ≡ update (length f) (predictors f d p) v → (out′ : List ℕ) → out′ ≡ set out n v
+        pub first-double : (v next : ℕ) → r ≡ Double v next → (f′ d′ : List ℕ) (q : Place)
+            → predictors f′ d′ q ≡ update (length f) (predictors f d p) v → (out′ : List ℕ) → out′ ≡ set out n v
             → Halfway size bytes out₀ f′ d′ q out′ (b % 16) next n
-        unfolding second
         first-double v next e f′ d′ q es out′ eo =
             let s = predictors f d p in
-            let on = onward size s (b / 16) bytes (at + 1) r st (omega arith) v next e in
-            let es′ : predictors f′ d′ q ≡ update size s v = es ∙ rw (w .sized) in
-            let e₁ = rw (on .then second) at pair-left in
+            let on = onward s (b / 16) bytes (at + 1) r st (omega arith) v next e in
+            let s′ = update size s v in
+            let es′ : predictors f′ d′ q ≡ s′ = es ∙ rw (w .sized) in
+            let k = pairsLeft (n + 2) in
+            let more = first-of v (oddEnd (b % 16) (drop next bytes)) (stepOf (fcm s′) (dfcm s′) (b % 16) (drop next bytes))
+            (λ y. readPairs size k (update size s′ (y .double)) (drop (y .next) (drop next bytes))) in
             record {
               left =
-                  ap₂ (λ (x : Predictors) (y : List ℕ). tookFrom size x y (n + 1) (second x (drop next bytes))) es′ eo
-                  ∙ took-one size s out n v (second (update size s v) (drop next bytes))
-                  ∙ e₁;
+                  ap₂ (λ (x : Predictors) (y : List ℕ). tookFrom size x y (n + 1) (secondLeft size x (b % 16) (drop next bytes) k)) es′ eo
+                  ∙ took-one size s out n v (secondLeft size s′ (b % 16) (drop next bytes) k)
+                  ∙ ap (tookFrom size s out n) (sym more)
+                  ∙ rw (on .found, on .left) at pair-left;
               within = within-next f d p (w .within) v f′ d′ q es;
               sized = same-size f d p (w .within) v f′ d′ q es ∙ w .sized;
               room = ap length eo ∙ length-set out n v ∙ w .room;
@@ -170,20 +197,24 @@ module _ (size : ℕ) (bytes out₀ f d : List ℕ) (p : Place) (out : List ℕ)
       let a : n + 1 + 0 ≡ n + 1 = add-zero (n + 1) in
       ran-as size out₀ (read size bytes) (n + 1) out f d (rw (e, a) at (w .left)) r ea ec
 
-  module _ (even : oddEnd lo (drop at bytes) ≡ false) (r : Step) (st : Stepped (predictors f d p) lo (drop at bytes) at r) where
-    double-left : tookFrom size (predictors f d p) out (n + 1) (doubleThen size (predictors f d p) lo (drop at bytes) (readPairs size (pairsLeft (n + 2)))) ≡ tookFrom size (start size) out₀ 0 (read size bytes)
+  module _ (even : oddEnd lo (drop at bytes) ≡ false) (r : Step) (st : answerOf r ≡ stepAnswer (predictors f d p) lo (drop at bytes) at) where
+    double-left : tookFrom size (predictors f d p) out (n + 1)
+        (andThen (stepOf (fcm (predictors f d p)) (dfcm (predictors f d p)) lo (drop at bytes)) (λ y.
+        Option·map (λ vs. y .double ∷ vs) (readPairs size (pairsLeft (n + 2)) (update size (predictors f d p) (y .double)) (drop (y .next) (drop at bytes)))))
+        ≡ tookAll size out₀ (read size bytes)
     double-left = rw even at (w .left)
 
     pub second-bad : r ≡ Bad → (reply : Reply) → reply .answer ≡ 23 → reply .count ≡ 0 → RanAs size out₀ (read size bytes) reply out f d
     second-bad e reply ea ec =
-        ran-not size out₀ (read size bytes) out f d (rw (bad size (predictors f d p) lo bytes at r st e (readPairs size (pairsLeft (n + 2)))) at double-left) reply ea ec
+        ran-not size out₀ (read size bytes) out f d (rw (bad (predictors f d p) lo bytes at r st e) at double-left) reply ea ec
 
     -- the second double, and the pair is whole
-    pub second-double : (v next : ℕ) → r ≡ Double v next → (f′ d′ : List ℕ) (q : Place) → predictors f′ d′ q ≡ update (length f) (predictors f d p) v → (out′ : List ℕ) → out′ ≡ set out (n + 1) v
+    pub second-double : (v next : ℕ) → r ≡ Double v next → (f′ d′ : List ℕ) (q : Place)
+        → predictors f′ d′ q ≡ update (length f) (predictors f d p) v → (out′ : List ℕ) → out′ ≡ set out (n + 1) v
         → Reading size bytes out₀ f′ d′ q out′ next (n + 2)
     second-double v next e f′ d′ q es out′ eo =
         let s = predictors f d p in
-        let on = onward size s lo bytes at r st (w .inside) v next e in
+        let on = onward s lo bytes at r st (w .inside) v next e in
         let es′ : predictors f′ d′ q ≡ update size s v = es ∙ rw (w .sized) in
         let more = readPairs size (pairsLeft (n + 2)) in
         let two : n + 2 ≡ n + 1 + 1 = omega arith in
@@ -192,7 +223,7 @@ module _ (size : ℕ) (bytes out₀ f d : List ℕ) (p : Place) (out : List ℕ)
               ap₂ (λ (x : Predictors) (y : List ℕ). tookFrom size x y (n + 2) (more x (drop next bytes))) es′ eo
               ∙ ap (λ (m : ℕ). tookFrom size (update size s v) (set out (n + 1) v) m (more (update size s v) (drop next bytes))) two
               ∙ took-one size s out (n + 1) v (more (update size s v) (drop next bytes))
-              ∙ rw (on .then more) at double-left;
+              ∙ rw (on .found, on .left) at double-left;
           within = within-next f d p (w .within) v f′ d′ q es;
           sized = same-size f d p (w .within) v f′ d′ q es ∙ w .sized;
           room = ap length eo ∙ length-set out (n + 1) v ∙ w .room;

@@ -6,60 +6,66 @@ use native.Mathlib.Omega.{arith}
 use native.Mathlib.Nat.{add-zero}
 use lib.ListN.{length, drop, getD, replicate, length-append, drop-of-length-le}
 use lib.Seq.{sets, length-sets, drop-cons, drop-length}
-use Rattle.steps.specs.declared.Place.{Place}
-use Rattle.predict.specs.Predictors.{Predictors, start, update, after, Tables}
-use Rattle.predict.specs.Stream.{pairBytes, oddBytes, streamFrom, stream, tableF, tableD}
-use Rattle.steps.specs.Calls.{Within, predictors, Appended}
+use Rattle.fpc_step.specs.declared.Place.{Place}
+use Rattle.fpc_stream.specs.Predictors.{Predictors, startPredictors, update, after}
+use Rattle.fpc_stream.specs.Calls.{Tables}
+use Rattle.fpc_stream.specs.Stream.{pairBytes, oddBytes, streamFrom, stream, tableF, tableD}
+use Rattle.fpc_step.specs.Calls.{Within, predictors, Appended}
 use Rattle.fpc.specs.Calls.{Stand}
 use Rattle.bits.proofs.WriteLaws.{sets-append}
-use Rattle.steps.proofs.WriteLaws.{start-is, start-within, same-size, within-next}
-use Rattle.predict.proofs.Lengths.{pair-le}
+use Rattle.fpc_step.proofs.WriteLaws.{start-is, start-within, same-size, within-next}
+use Rattle.fpc_stream.proofs.Lengths.{pair-le}
 
 -- what writing leaves: the next place, the output and both tables
-pub record Written : Type 0 where
+pub record RunWritten : Type 0 where
   pub next : ℕ
   pub out : List ℕ
   pub f : List ℕ
   pub d : List ℕ
 
-abbrev pub wrote : List ℕ → ℕ → List ℕ → Predictors → Written
+abbrev pub wrote : List ℕ → ℕ → List ℕ → Predictors → RunWritten
 wrote out at bytes s = record { next = at + length bytes; out = sets out at bytes; f = s .f; d = s .d }
 
 -- the doubles vs written from place `at` on, after the predictors s
-abbrev pub wroteFrom : ℕ → Predictors → List ℕ → ℕ → List ℕ → Written
+abbrev pub wroteFrom : ℕ → Predictors → List ℕ → ℕ → List ℕ → RunWritten
 wroteFrom size s out at vs = wrote out at (streamFrom size s vs) (after size s vs)
 
 -- one pair, and then the rest
-pub pair-first : (size : ℕ) (s : Predictors) (out : List ℕ) (at : ℕ) (v w : ℕ) (vs : List ℕ) (next : ℕ) (out′ : List ℕ) → Appended out at (pairBytes size s v w) next out′
+pair-first : (size : ℕ) (s : Predictors) (out : List ℕ) (at : ℕ) (v w : ℕ) (vs : List ℕ) (next : ℕ) (out′ : List ℕ)
+    → Appended out at (pairBytes size s v w) next out′
     → wroteFrom size (update size (update size s v) w) out′ next vs ≡ wroteFrom size s out at (v ∷ w ∷ vs)
 pair-first size s out at v w vs next out′ r =
     let b = pairBytes size s v w in
     let s″ = update size (update size s v) w in
-    let l : at + length b + length (streamFrom size s″ vs) ≡ at + length (b ++ streamFrom size s″ vs) = omega (arith, length-append b (streamFrom size s″ vs)) in
+    let l : at + length b + length (streamFrom size s″ vs) ≡ at + length (b ++ streamFrom size s″ vs) =
+    omega (arith, length-append b (streamFrom size s″ vs)) in
     rw (r .moved, r .put, l, sets-append out at b (streamFrom size s″ vs))
 
 -- the two doubles at a place, and the doubles after them
-pub drop-two : (vs : List ℕ) (i : ℕ) → i + 1 < length vs → drop i vs ≡ getD vs i 0 ∷ getD vs (i + 1) 0 ∷ drop (i + 2) vs
+drop-two : (vs : List ℕ) (i : ℕ) → i + 1 < length vs → drop i vs ≡ getD vs i 0 ∷ getD vs (i + 1) 0 ∷ drop (i + 2) vs
 drop-two vs i h =
     let p : i + 1 ≡ suc i = omega arith in
     let q : i + 2 ≡ suc (suc i) = omega arith in
     rw (p, q, drop-cons vs i 0 (omega arith), drop-cons vs (suc i) 0 (omega arith))
 
-pub drop-one : (vs : List ℕ) (i : ℕ) → i + 1 ≡ length vs → drop i vs ≡ getD vs i 0 ∷ []
+drop-one : (vs : List ℕ) (i : ℕ) → i + 1 ≡ length vs → drop i vs ≡ getD vs i 0 ∷ []
 drop-one vs i h =
     let q : suc i ≡ length vs = omega arith in
     rw (drop-cons vs i 0 (omega arith), q) (ap (λ (l : List ℕ). getD vs i 0 ∷ l) (drop-length vs))
 
 -- a whole run, written from the start
-pub whole-run : (size : ℕ) (vs out : List ℕ) (r : ℕ) (out′ f′ d′ : List ℕ) → record { next = r; out = out′; f = f′; d = d′ } ≡ wroteFrom size (start size) out 0 vs
+whole-run : (size : ℕ) (vs out : List ℕ) (r : ℕ) (out′ f′ d′ : List ℕ)
+    → record { next = r; out = out′; f = f′; d = d′ } ≡ wroteFrom size (startPredictors size) out 0 vs
     → Appended out 0 (stream size vs) r out′ × Stand size vs f′ d′
 unfolding stream tableF tableD
-whole-run size vs out r out′ f′ d′ e =
-    (record { moved = ap (λ (w : Written). w .next) e; put = ap (λ (w : Written). w .out) e }, record { f-is = ap (λ (w : Written). w .f) e; d-is = ap (λ (w : Written). w .d) e })
+whole-run size vs out r out′ f′ d′ e = (
+  record { moved = ap (λ (w : RunWritten). w .next) e; put = ap (λ (w : RunWritten). w .out) e },
+  record { f-is = ap (λ (w : RunWritten). w .f) e; d-is = ap (λ (w : RunWritten). w .d) e },
+)
 
 -- where the writer stands after i doubles of the run vs
 pub record Writing (size : ℕ) (vs out₀ f d : List ℕ) (p : Place) (out : List ℕ) (at i : ℕ) : Type 0 where
-  pub left : wroteFrom size (predictors f d p) out at (drop i vs) ≡ wroteFrom size (start size) out₀ 0 vs
+  pub left : wroteFrom size (predictors f d p) out at (drop i vs) ≡ wroteFrom size (startPredictors size) out₀ 0 vs
   pub within : Within f d p
   pub sized : length f ≡ size
   pub room : length out ≡ length out₀
@@ -111,10 +117,13 @@ module _ (size : ℕ) (vs out₀ f d : List ℕ) (p : Place) (out : List ℕ) (a
   writing-done h =
       let z : drop i vs ≡ [] = drop-of-length-le vs h in
       let a : at + 0 ≡ at = add-zero at in
-      whole-run size vs out₀ at out f d (ap (λ (n : ℕ). record { next = n; out = out; f = f; d = d }) (sym a) ∙ ap (wroteFrom size (predictors f d p) out at) (sym z) ∙ w .left)
+      whole-run size vs out₀ at out f d
+      (ap (λ (n : ℕ). record { next = n; out = out; f = f; d = d }) (sym a) ∙ ap (wroteFrom size (predictors f d p) out at) (sym z) ∙ w .left)
 
   pub writing-odd : i + 1 ≡ length vs → (r : ℕ) (out′ f′ d′ : List ℕ)
       → Appended out at (oddBytes (predictors f d p) (getD vs i 0)) r out′
       → (f′ ≡ update (length f) (predictors f d p) (getD vs i 0) .f) × (d′ ≡ update (length f) (predictors f d p) (getD vs i 0) .d)
       → Appended out₀ 0 (stream size vs) r out′ × Stand size vs f′ d′
-  writing-odd h r out′ f′ d′ o e = whole-run size vs out₀ r out′ f′ d′ (rw (o .moved, o .put, e .0, e .1) (ap (wroteFrom size (predictors f d p) out at) (sym (drop-one vs i h)) ∙ w .left))
+  writing-odd h r out′ f′ d′ o e =
+      whole-run size vs out₀ r out′ f′ d′
+      (rw (o .moved, o .put, e .0, e .1) (ap (wroteFrom size (predictors f d p) out at) (sym (drop-one vs i h)) ∙ w .left))

@@ -1,25 +1,26 @@
 // FPC streams: document 01's "FPC stream", writer and reader.
-use predict::Step;
-use steps::Coded;
-use steps::Place;
-use steps::advance;
-use steps::encode;
-use steps::odd_end;
-use steps::put_pair;
-use steps::read_step;
-use steps::slices::byte;
-use steps::slices::clear;
-use steps::slices::put_double;
+use fpc_step::CodedDouble;
+use fpc_step::Place;
+use fpc_step::advance;
+use fpc_step::encode;
+use fpc_step::odd_end;
+use fpc_step::put_pair;
+use fpc_step::read_step;
+use fpc_step::slices::byte;
+use fpc_step::slices::clear;
+use fpc_step::slices::put_double;
+use fpc_stream::Step;
 ghost use mathlib.Core.Path.{_≡_};
 ghost use mathlib.Core.Bool.{_&&_};
 ghost use lib.Dec.{eqb};
 ghost use Prim.Native.Nat.{_^_, _≤_};
 ghost use lib.ListN.{length};
-ghost use Rattle.predict.specs.Predictors.{update, Tables};
-ghost use Rattle.predict.specs.Stream.{pairBytes, oddBytes, stream};
-ghost use Rattle.predict.specs.Reading.{mostDoubles, read};
-ghost use Rattle.predict.specs.Outcome.{goodSize, delivered, writeOutcome, readInto, readOutcome};
-ghost use Rattle.steps.specs.Calls.{Within, predictors, Appended};
+ghost use Rattle.fpc_stream.specs.Predictors.{update};
+ghost use Rattle.fpc_stream.specs.Calls.{Tables};
+ghost use Rattle.fpc_stream.specs.Stream.{pairBytes, oddBytes, stream};
+ghost use Rattle.fpc_stream.specs.Reading.{mostDoubles, read};
+ghost use Rattle.fpc_stream.specs.Outcome.{goodSize, delivered, fpcWriteOutcome, readInto, fpcReadOutcome};
+ghost use Rattle.fpc_step.specs.Calls.{Within, predictors, Appended};
 ghost use Rattle.fpc.specs.Calls.{Stand, RanAs, Refused, outcome};
 
 // What a public call answers: document 01's answer number, and a count.
@@ -30,9 +31,9 @@ pub struct Reply {
 }
 
 // The place after a pair, and the place of the next byte.
-pub struct Wrote {
-    pub place: Place,
-    pub next: usize,
+struct Wrote {
+    place: Place,
+    next: usize,
 }
 
 // The place of the first double.
@@ -59,8 +60,12 @@ fn write_pair(
     at: usize,
 ) -> Wrote
     requires { ⌜ Within (now f) (now d) p × (at ≤ 2 ^ 20) ⌝ }
-    ensures { λ r. ⌜ Appended (now (out .entry)) at (pairBytes (length (now (f .entry))) (predictors (now (f .entry)) (now (d .entry)) p) v w) (r .next) (now (out .exit)) ⌝ }
-    ensures { λ r. ⌜ predictors (now (f .exit)) (now (d .exit)) (r .place) ≡ update (length (now (f .entry))) (update (length (now (f .entry))) (predictors (now (f .entry)) (now (d .entry)) p) v) w ⌝ }
+    ensures { λ r. ⌜
+        Appended (now (out .entry)) at (pairBytes (length (now (f .entry))) (predictors (now (f .entry)) (now (d .entry)) p) v w)
+        (r .next) (now (out .exit)) ⌝ }
+    ensures { λ r. ⌜
+        predictors (now (f .exit)) (now (d .exit)) (r .place)
+        ≡ update (length (now (f .entry))) (update (length (now (f .entry))) (predictors (now (f .entry)) (now (d .entry)) p) v) w ⌝ }
 {
     let a = encode(f, d, p, v);
     let q = a.place;
@@ -74,10 +79,12 @@ fn write_pair(
 fn write_odd(f: &mut [u64], d: &mut [u64], p: Place, v: u64, out: &mut [u8], at: usize) -> usize
     requires { ⌜ Within (now f) (now d) p × (at ≤ 2 ^ 20) ⌝ }
     ensures { λ r. ⌜ Appended (now (out .entry)) at (oddBytes (predictors (now (f .entry)) (now (d .entry)) p) v) r (now (out .exit)) ⌝ }
-    ensures { λ r. ⌜ (now (f .exit) ≡ update (length (now (f .entry))) (predictors (now (f .entry)) (now (d .entry)) p) v .f) × (now (d .exit) ≡ update (length (now (f .entry))) (predictors (now (f .entry)) (now (d .entry)) p) v .d) ⌝ }
+    ensures { λ r. ⌜
+        (now (f .exit) ≡ update (length (now (f .entry))) (predictors (now (f .entry)) (now (d .entry)) p) v .f)
+        × (now (d .exit) ≡ update (length (now (f .entry))) (predictors (now (f .entry)) (now (d .entry)) p) v .d) ⌝ }
 {
     let a = encode(f, d, p, v);
-    let b = Coded {
+    let b = CodedDouble {
         half: 6,
         xor: 0,
         place: p,
@@ -137,7 +144,9 @@ fn good_lengths(m: usize, n: usize) -> bool
 // The writer after rows 20 and 21: the length is measured first, with no room, so that row 22 leaves the output as it was.
 fn write_measured(f: &mut [u64], d: &mut [u64], doubles: &[u64], out: &mut [u8]) -> Reply
     requires { ⌜ Tables (now f) (now d) × (length (now doubles) ≤ mostDoubles) ⌝ }
-    ensures { λ r. ⌜ outcome r (now (out .exit)) (now (f .exit)) (now (d .exit)) ≡ delivered (length (now (f .entry))) (now (doubles .entry)) (stream (length (now (f .entry))) (now (doubles .entry))) (now (out .entry)) ⌝ }
+    ensures { λ r. ⌜
+        outcome r (now (out .exit)) (now (f .exit)) (now (d .exit))
+        ≡ delivered (length (now (f .entry))) (now (doubles .entry)) (stream (length (now (f .entry))) (now (doubles .entry))) (now (out .entry)) ⌝ }
 {
     let n = write_run(f, d, doubles, &mut out[..0]);
     if out.len() < n {
@@ -152,7 +161,9 @@ fn write_measured(f: &mut [u64], d: &mut [u64], doubles: &[u64], out: &mut [u8])
 
 // The FPC writer. Both tables are lent beside the doubles and the room for the stream; what they hold does not matter.
 pub fn fpc_write(f: &mut [u64], d: &mut [u64], doubles: &[u64], out: &mut [u8]) -> Reply
-    ensures { λ r. ⌜ outcome r (now (out .exit)) (now (f .exit)) (now (d .exit)) ≡ writeOutcome (now (f .entry)) (now (d .entry)) (now (doubles .entry)) (now (out .entry)) ⌝ }
+    ensures { λ r. ⌜
+        outcome r (now (out .exit)) (now (f .exit)) (now (d .exit))
+        ≡ fpcWriteOutcome (now (f .entry)) (now (d .entry)) (now (doubles .entry)) (now (out .entry)) ⌝ }
 {
     if !good_lengths(f.len(), d.len()) {
         return Reply {
@@ -172,7 +183,9 @@ pub fn fpc_write(f: &mut [u64], d: &mut [u64], doubles: &[u64], out: &mut [u8]) 
 // The doubles of a stream, from zeroed tables; how many. What the room does not hold is left out. Bytes that are no stream are left with 23.
 fn read_run(f: &mut [u64], d: &mut [u64], stream: &[u8], doubles: &mut [u64]) -> Reply
     requires { ⌜ Tables (now f) (now d) ⌝ }
-    ensures { λ r. ⌜ RanAs (length (now (f .entry))) (now (doubles .entry)) (read (length (now (f .entry))) (now (stream .entry))) r (now (doubles .exit)) (now (f .exit)) (now (d .exit)) ⌝ }
+    ensures { λ r. ⌜
+        RanAs (length (now (f .entry))) (now (doubles .entry)) (read (length (now (f .entry))) (now (stream .entry)))
+        r (now (doubles .exit)) (now (f .exit)) (now (d .exit)) ⌝ }
 {
     clear(f);
     clear(d);
@@ -212,7 +225,9 @@ fn read_run(f: &mut [u64], d: &mut [u64], stream: &[u8], doubles: &mut [u64]) ->
 // The reader after rows 20 and 21: the stream is read first with no room, so that rows 23 and 22 leave the output as it was; 23 comes before 22.
 fn read_measured(f: &mut [u64], d: &mut [u64], stream: &[u8], doubles: &mut [u64]) -> Reply
     requires { ⌜ Tables (now f) (now d) ⌝ }
-    ensures { λ r. ⌜ outcome r (now (doubles .exit)) (now (f .exit)) (now (d .exit)) ≡ readInto (length (now (f .entry))) (now (doubles .entry)) (read (length (now (f .entry))) (now (stream .entry))) ⌝ }
+    ensures { λ r. ⌜
+        outcome r (now (doubles .exit)) (now (f .exit)) (now (d .exit))
+        ≡ readInto (length (now (f .entry))) (now (doubles .entry)) (read (length (now (f .entry))) (now (stream .entry))) ⌝ }
 {
     let r = read_run(f, d, stream, &mut doubles[..0]);
     if r.answer != 0 {
@@ -227,7 +242,9 @@ fn read_measured(f: &mut [u64], d: &mut [u64], stream: &[u8], doubles: &mut [u64
 
 // The FPC reader. Both tables are lent beside the stream and the room for the doubles; what they hold does not matter.
 pub fn fpc_read(f: &mut [u64], d: &mut [u64], stream: &[u8], doubles: &mut [u64]) -> Reply
-    ensures { λ r. ⌜ outcome r (now (doubles .exit)) (now (f .exit)) (now (d .exit)) ≡ readOutcome (now (f .entry)) (now (d .entry)) (now (stream .entry)) (now (doubles .entry)) ⌝ }
+    ensures { λ r. ⌜
+        outcome r (now (doubles .exit)) (now (f .exit)) (now (d .exit))
+        ≡ fpcReadOutcome (now (f .entry)) (now (d .entry)) (now (stream .entry)) (now (doubles .entry)) ⌝ }
 {
     if !good_lengths(f.len(), d.len()) {
         return Reply {

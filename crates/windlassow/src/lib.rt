@@ -3,7 +3,7 @@ ghost use mathlib.Core.Path.{_≡_};
 ghost use lib.ListN.{length};
 ghost use Rattle.bits.specs.Stream.{bitsOf};
 ghost use Rattle.slots.specs.Outcome.{countOutcome, bitOutcome, storeOutcome, readOutcome, slotOf};
-ghost use Rattle.predict.specs.Outcome.{writeOutcome, readOutcome as fpcReadOutcome};
+ghost use Rattle.fpc_stream.specs.Outcome.{fpcWriteOutcome, fpcReadOutcome};
 ghost use Rattle.fpc.specs.Calls.{outcome};
 ghost use Rattle.windlassow.specs.Plain.{params};
 
@@ -102,7 +102,9 @@ pub extern "C" fn windlassow_fpc_write(
     doubles: &[u64],
     out: &mut [u8],
 ) -> fpc::Reply
-    ensures { λ r. ⌜ outcome r (now (out .exit)) (now (f .exit)) (now (d .exit)) ≡ writeOutcome (now (f .entry)) (now (d .entry)) (now (doubles .entry)) (now (out .entry)) ⌝ }
+    ensures { λ r. ⌜
+        outcome r (now (out .exit)) (now (f .exit)) (now (d .exit))
+        ≡ fpcWriteOutcome (now (f .entry)) (now (d .entry)) (now (doubles .entry)) (now (out .entry)) ⌝ }
 {
     fpc::fpc_write(f, d, doubles, out)
 }
@@ -115,7 +117,9 @@ pub extern "C" fn windlassow_fpc_read(
     stream: &[u8],
     doubles: &mut [u64],
 ) -> fpc::Reply
-    ensures { λ r. ⌜ outcome r (now (doubles .exit)) (now (f .exit)) (now (d .exit)) ≡ fpcReadOutcome (now (f .entry)) (now (d .entry)) (now (stream .entry)) (now (doubles .entry)) ⌝ }
+    ensures { λ r. ⌜
+        outcome r (now (doubles .exit)) (now (f .exit)) (now (d .exit))
+        ≡ fpcReadOutcome (now (f .entry)) (now (d .entry)) (now (stream .entry)) (now (doubles .entry)) ⌝ }
 {
     fpc::fpc_read(f, d, stream, doubles)
 }

@@ -4,7 +4,7 @@ use mathlib.Core.Logic.{_⊎_, inl, inr}
 use mathlib.Core.Bool.{true, false}
 use Prim.Native.Nat.{ℕ}
 use borrow.Author.Tests.{ne-eqb}
-use Rattle.predict.specs.Outcome.{goodSize}
+use Rattle.fpc_stream.specs.Outcome.{goodSize}
 use Rattle.fpc.proofs.good_size.Statement.{statement}
 use Rattle.fpc.proofs.good_size.Tie as tie
 
@@ -20,7 +20,16 @@ among n (inr (inr (inr (inr (inr (inr e)))))) = sym (ap goodSize e)
 
 none-of : (n : ℕ) → (((n ≡ 16) ⊎ ((n ≡ 32) ⊎ ((n ≡ 64) ⊎ ((n ≡ 128) ⊎ ((n ≡ 256) ⊎ ((n ≡ 512) ⊎ (n ≡ 1024))))))) → ⊥) → false ≡ goodSize n
 unfolding goodSize
-none-of n h = rw (ne-eqb n 16 (λ e. h (inl e)), ne-eqb n 32 (λ e. h (inr (inl e))), ne-eqb n 64 (λ e. h (inr (inr (inl e)))), ne-eqb n 128 (λ e. h (inr (inr (inr (inl e))))), ne-eqb n 256 (λ e. h (inr (inr (inr (inr (inl e)))))), ne-eqb n 512 (λ e. h (inr (inr (inr (inr (inr (inl e))))))), ne-eqb n 1024 (λ e. h (inr (inr (inr (inr (inr (inr e))))))))
+none-of n h =
+    rw (
+      ne-eqb n 16 (λ e. h (inl e)),
+      ne-eqb n 32 (λ e. h (inr (inl e))),
+      ne-eqb n 64 (λ e. h (inr (inr (inl e)))),
+      ne-eqb n 128 (λ e. h (inr (inr (inr (inl e))))),
+      ne-eqb n 256 (λ e. h (inr (inr (inr (inr (inl e)))))),
+      ne-eqb n 512 (λ e. h (inr (inr (inr (inr (inr (inl e))))))),
+      ne-eqb n 1024 (λ e. h (inr (inr (inr (inr (inr (inr e))))))),
+    )
 
 returns : tie.Need-returns
 returns c = among _ (c .match .keys1)

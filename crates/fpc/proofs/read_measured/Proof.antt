@@ -1,14 +1,43 @@
 -- `fpc::read_measured` meets its contract: what was read with no room is what is read for good. Assumes nothing.
-use mathlib.Core.List.{[], _++_}
+use mathlib.Core.List.{List, [], _++_}
+use mathlib.Core.Option.{Option}
 use mathlib.Core.Path.{_∙_, subst}
 use Prim.Native.Nat.{ℕ}
 use lib.ListN.{length}
 use borrow.Author.Needs.{needs}
-use Rattle.fpc.specs.Calls.{RanAs}
-use Rattle.predict.specs.Reading.{read}
-use Rattle.fpc.proofs.Delivery.{cleared, read-23, read-22, read-0}
+use Rattle.fpc.specs.declared.Reply.{Reply}
+use Rattle.fpc.specs.Calls.{RanAs, Refused}
+use Rattle.fpc_stream.specs.Reading.{read}
+use Rattle.fpc.proofs.Delivery.{ClearedAt, cleared, read-23, read-22, read-0}
 use Rattle.fpc.proofs.read_measured.Statement.{statement}
 use Rattle.fpc.proofs.read_measured.Tie as tie
+
+-- the places that the answers below go back to: the entry, and the reading with no room seen from both ways after it
+abbrev entry : tie.After-read-run → tie.Start
+entry c = c .before .before .before .before .before .before .before .before
+
+abbrev no-stream : tie.Then1 → tie.After-read-run
+no-stream c = c .before .before .before .before .before .before .before .before
+
+abbrev a-stream : tie.Else1 → tie.After-read-run
+a-stream c = c .before .before .before .before .before .before .before .before
+
+-- the size of the tables, the part without places, and what the bytes give
+abbrev size : tie.After-read-run → ℕ
+size c = length (entry c .args .f .now)
+
+abbrev part : tie.After-read-run → List ℕ
+part c = c .read-run .last .1 .1 .1 .0
+
+abbrev given : tie.After-read-run → Option (List ℕ)
+given c = read (size c) (entry c .args .stream .now)
+
+-- a refusal after it cleared tables of that size
+cleared-after : (c : tie.After-read-run) (answer count : ℕ) (r : Reply) (f d : List ℕ)
+    → Refused (c .read-run .last .0) (c .read-run .last .1 .0) answer count r f d → ClearedAt (size c) answer count r f d
+cleared-after c answer count r f d q =
+    let k = c .read-run .kept in
+    cleared (size c) (c .read-run .last .0) (c .read-run .last .1 .0) answer count r f d (k .0) (k .1 .0 ∙ entry c .pre .same) q
 
 slice-relend-prefix-read-run : tie.Need-slice-relend-prefix-read-run
 slice-relend-prefix-read-run c = search needs
@@ -35,12 +64,15 @@ returns : tie.Need-returns
 returns c =
     let x = c .before .before .before .before in
     let t = x .before .before .before in
-    let r = t .before .before .before .before .before .before .before .before in
-    let s = r .before .before .before .before .before .before .before .before in
-    let a = s .args in
-    let n = length (a .f .now) in
-    read-23 n (a .doubles .now) (r .read-run .last .1 .1 .1 .0) (r .read-run .kept .1 .1 .1 .0) [] (read n (a .stream .now)) (r .read-run .result) (r .read-run .last .0) (r .read-run .last .1 .0) (r .read-run .ensures) (x .refused .result) (x .refused .last .0) (x .refused .last .1 .0) (t .if1 .taken)
-    (cleared n (r .read-run .last .0) (r .read-run .last .1 .0) 23 0 (x .refused .result) (x .refused .last .0) (x .refused .last .1 .0) (r .read-run .kept .0) (r .read-run .kept .1 .0 ∙ s .pre .same) (x .refused .ensures))
+    let r = no-stream t in
+    let w = r .read-run in
+    let q = x .refused in
+    read-23 (size r) (entry r .args .doubles .now) (part r) (w .kept .1 .1 .1 .0) [] (given r) (w .result) (w .last .0) (w .last .1 .0) (w .ensures)
+    (q .result)
+    (q .last .0)
+    (q .last .1 .0)
+    (t .if1 .taken)
+    (cleared-after r 23 0 (q .result) (q .last .0) (q .last .1 .0) (q .ensures))
 
 cast-n : tie.Need-cast-n
 cast-n c = search needs
@@ -62,12 +94,16 @@ returns-2 c =
     let x = c .before .before .before .before in
     let t = x .before .before .before in
     let e = t .before .before in
-    let r = e .before .before .before .before .before .before .before .before in
-    let s = r .before .before .before .before .before .before .before .before in
-    let a = s .args in
-    let n = length (a .f .now) in
-    read-22 n (a .doubles .now) (r .read-run .last .1 .1 .1 .0) (r .read-run .kept .1 .1 .1 .0) [] (read n (a .stream .now)) (r .read-run .result) (r .read-run .last .0) (r .read-run .last .1 .0) (r .read-run .ensures) (x .refused2 .result) (x .refused2 .last .0) (x .refused2 .last .1 .0) (e .if1 .left) (t .if2 .taken)
-    (cleared n (r .read-run .last .0) (r .read-run .last .1 .0) 22 (r .read-run .result .count) (x .refused2 .result) (x .refused2 .last .0) (x .refused2 .last .1 .0) (r .read-run .kept .0) (r .read-run .kept .1 .0 ∙ s .pre .same) (x .refused2 .ensures))
+    let r = a-stream e in
+    let w = r .read-run in
+    let q = x .refused2 in
+    read-22 (size r) (entry r .args .doubles .now) (part r) (w .kept .1 .1 .1 .0) [] (given r) (w .result) (w .last .0) (w .last .1 .0) (w .ensures)
+    (q .result)
+    (q .last .0)
+    (q .last .1 .0)
+    (e .if1 .left)
+    (t .if2 .taken)
+    (cleared-after r 22 (w .result .count) (q .result) (q .last .0) (q .last .1 .0) (q .ensures))
 
 read-run-requires-2 : tie.Need-read-run-requires-2
 read-run-requires-2 c κs = search needs
@@ -86,14 +122,20 @@ returns-3 c =
     let y = c .before .before .before .before .before .before in
     let t = y .before .before .before .before in
     let e = t .before .before in
-    let r = e .before .before .before .before .before .before .before .before in
-    let s = r .before .before .before .before .before .before .before .before in
-    let a = s .args in
-    let n = length (a .f .now) in
-    let o = r .read-run .last .1 .1 .1 .0 ++ a .doubles .now in
+    let r = a-stream e in
+    let w = r .read-run in
+    let a = entry r .args in
     let q = y .read-run2 in
-    read-0 n (a .doubles .now) (r .read-run .last .1 .1 .1 .0) (r .read-run .kept .1 .1 .1 .0) [] (read n (a .stream .now)) (r .read-run .result) (r .read-run .last .0) (r .read-run .last .1 .0) (r .read-run .ensures) (q .result) (q .last .0) (q .last .1 .0) (e .if1 .left) (t .if2 .left) (q .last .1 .1 .1 .0)
-    (subst (λ (m : ℕ). RanAs m o (read m (a .stream .now)) (q .result) (q .last .1 .1 .1 .0) (q .last .0) (q .last .1 .0)) (r .read-run .kept .0) (q .ensures))
+    let out = q .last .1 .1 .1 .0 in
+    let o = part r ++ a .doubles .now in
+    read-0 (size r) (a .doubles .now) (part r) (w .kept .1 .1 .1 .0) [] (given r) (w .result) (w .last .0) (w .last .1 .0) (w .ensures)
+    (q .result)
+    (q .last .0)
+    (q .last .1 .0)
+    (e .if1 .left)
+    (t .if2 .left)
+    out
+    (subst (λ (m : ℕ). RanAs m o (read m (a .stream .now)) (q .result) out (q .last .0) (q .last .1 .0)) (w .kept .0) (q .ensures))
 
 pub read-measured-spec : {M : Type 1} → statement M
 read-measured-spec =

@@ -1,16 +1,19 @@
--- `fpc::read_run` meets its contract. The invariant: reading the rest of the stream from here gives what reading all of it from the start gives. Assumes nothing.
+-- `fpc::read_run` meets its contract. The invariant: reading the rest of the stream from here gives what reading all of it
+-- from the start gives. Assumes nothing.
 use mathlib.Core.List.{List}
+use mathlib.Core.Bool.{false}
 use mathlib.Core.Path.{_≡_, refl, sym, _∙_, subst}
 use Prim.Native.Nat.{ℕ, _-_, _%_}
 use native.Mathlib.Nat.{mod-lt}
 use native.Mathlib.Omega.{arith}
 use lib.Dec.{lit<}
-use lib.ListN.{length}
+use lib.ListN.{length, drop}
 use borrow.Author.Needs.{needs}
 use Rattle.fpc.specs.declared.Reply.{Reply}
 use Rattle.fpc.specs.Calls.{RanAs}
-use Rattle.predict.specs.Reading.{mostDoubles, read}
-use Rattle.fpc.proofs.ReadLaws.{Reading, Halfway, reading-start, reading-done, reading-full, first-bad, first-double, half-odd, second-bad, second-double}
+use Rattle.fpc_stream.specs.Reading.{oddEnd, mostDoubles, read}
+use Rattle.fpc.proofs.ReadLaws.{Reading, Halfway, reading-start, reading-done, reading-full, first-bad, first-double}
+use Rattle.fpc.proofs.ReadLaws.{half-odd, second-bad, second-double}
 use Rattle.fpc.proofs.read_run.Statement.{statement}
 use Rattle.fpc.proofs.read_run.Tie as tie
 
@@ -31,17 +34,31 @@ abbrev at-advance : tie.After-put-double Inv-loop μ-loop → tie.After-advance 
 at-advance c = c .before .before .before .before .before .before
 
 abbrev at-double : tie.After-put-double Inv-loop μ-loop → tie.After-v Inv-loop μ-loop
-at-double c = c .before .before .before .before .before .before .before .before .before .before
+at-double c = at-advance c .before .before .before .before
 
 abbrev at-byte : tie.After-put-double Inv-loop μ-loop → tie.After-byte Inv-loop μ-loop
-at-byte c = c .before .before .before .before .before .before .before .before .before .before .before .before .before .before .before
+at-byte c = at-double c .before .before .before .before .before
 
 abbrev at-head : tie.After-put-double Inv-loop μ-loop → tie.At-loop Inv-loop μ-loop
-at-head c = c .before .before .before .before .before .before .before .before .before .before .before .before .before .before .before .before .before .before .before
+at-head c = at-byte c .before .before .before .before
+
+-- the loop's head seen from the first step, and the first double's store seen from the second step and from the tables after it
+abbrev first-head : tie.After-read-step Inv-loop μ-loop → tie.At-loop Inv-loop μ-loop
+first-head c = c .before .before .before .before .before .before .before
+
+abbrev at-half : tie.After-read-step2 Inv-loop μ-loop → tie.After-put-double Inv-loop μ-loop
+at-half c = c .before .before .before .before .before .before .before
+
+abbrev at-step : tie.After-advance2 Inv-loop μ-loop → tie.After-read-step2 Inv-loop μ-loop
+at-step c = c .before .before .before .before .before .before
+
+-- the size of the cleared tables
+abbrev size : tie.At-loop Inv-loop μ-loop → ℕ
+size c = length (at-clear c .clear .last .0)
 
 -- what a reading at the cleared tables' size says at the lent tables' size, which is the same
 at-size : (c : tie.At-loop Inv-loop μ-loop) (r : Reply) (out f d : List ℕ)
-    → RanAs (length (at-clear c .clear .last .0)) (entry c .args .doubles .now) (read (length (at-clear c .clear .last .0)) (entry c .args .stream .now)) r out f d
+    → RanAs (size c) (entry c .args .doubles .now) (read (size c) (entry c .args .stream .now)) r out f d
     → RanAs (length (entry c .args .f .now)) (entry c .args .doubles .now) (read (length (entry c .args .f .now)) (entry c .args .stream .now)) r out f d
 at-size c r out f d h =
     let a = entry c .args in
@@ -49,7 +66,7 @@ at-size c r out f d h =
 
 -- after the first double of a pair
 halfway : (c : tie.After-put-double Inv-loop μ-loop)
-    → Halfway (length (at-clear (at-head c) .clear .last .0)) (entry (at-head c) .args .stream .now) (entry (at-head c) .args .doubles .now)
+    → Halfway (size (at-head c)) (entry (at-head c) .args .stream .now) (entry (at-head c) .args .doubles .now)
     (at-advance c .advance .last .0) (at-advance c .advance .last .1 .0) (at-advance c .advance .result) (c .put-double .last .0)
     (at-byte c .byte .result % 16) (at-double c .v .given .0 .1 .0) (at-head c .loop .n)
 halfway c =
@@ -61,7 +78,7 @@ halfway c =
     let l = at-head c in
     let o = l .loop in
     let a = entry l .args in
-    first-double (length (at-clear l .clear .last .0)) (a .stream .now) (a .doubles .now) (o .f) (o .d) (o .p) (o .doubles) (o .at) (o .n) (o .inv)
+    first-double (size l) (a .stream .now) (a .doubles .now) (o .f) (o .d) (o .p) (o .doubles) (o .at) (o .n) (o .inv)
     (e .before .loop-test .taken)
     (e .if1 .left)
     (y .byte .result)
@@ -77,6 +94,11 @@ halfway c =
     (u .advance .ensures)
     (c .put-double .last .0)
     (c .put-double .ensures)
+
+-- the second step is not made at an odd end
+even : (c : tie.After-read-step2 Inv-loop μ-loop)
+    → oddEnd (at-byte (at-half c) .byte .result % 16) (drop (at-double (at-half c) .v .given .0 .1 .0) (entry (at-head (at-half c)) .args .stream .now)) ≡ false
+even c = sym (c .before .before .before .before .odd-end .ensures) ∙ c .before .before .before .if2 .left
 
 -- the tables keep their lengths
 f-length : (c : tie.At-loop Inv-loop μ-loop) → length (c .loop .f) ≡ length (entry c .args .f .now)
@@ -103,7 +125,9 @@ loop-holds c =
     let x = y .before .before .before .before in
     let s = x .before .before .before .before .before .before in
     let a = s .args in
-    reading-start (x .clear .last .0) (y .clear2 .last .0) (a .stream .now) (a .doubles .now) (a .f .now) (a .d .now) (s .pre) (x .clear .ensures) (y .clear2 .ensures)
+    reading-start (x .clear .last .0) (y .clear2 .last .0) (a .stream .now) (a .doubles .now) (a .f .now) (a .d .now) (s .pre)
+    (x .clear .ensures)
+    (y .clear2 .ensures)
 
 same-length : tie.Need-same-length Inv-loop μ-loop
 same-length c = f-length (c .before .before)
@@ -119,7 +143,11 @@ returns c =
     let l = c .before .before in
     let o = l .loop in
     let a = entry l .args in
-    at-size l _ _ _ _ (reading-full (length (at-clear l .clear .last .0)) (a .stream .now) (a .doubles .now) (o .f) (o .d) (o .p) (o .doubles) (o .at) (o .n) (o .inv) (c .before .loop-test .taken) (c .if1 .taken) _ refl refl)
+    at-size l _ _ _ _
+    (reading-full (size l) (a .stream .now) (a .doubles .now) (o .f) (o .d) (o .p) (o .doubles) (o .at) (o .n) (o .inv)
+    (c .before .loop-test .taken)
+    (c .if1 .taken)
+    _ refl refl)
 
 shared-slice-read-byte : tie.Need-shared-slice-read-byte Inv-loop μ-loop
 shared-slice-read-byte c = search needs
@@ -144,13 +172,13 @@ enum-told : tie.Need-enum-told Inv-loop μ-loop
 enum-told c = search needs
 
 same-length-4 : tie.Need-same-length-4 Inv-loop μ-loop
-same-length-4 c = f-length (c .before .before .before .before .before .before .before .before .before)
+same-length-4 c = f-length (first-head (c .before .before))
 
 same-length-5 : tie.Need-same-length-5 Inv-loop μ-loop
-same-length-5 c = d-length (c .before .before .before .before .before .before .before .before .before)
+same-length-5 c = d-length (first-head (c .before .before))
 
 same-length-6 : tie.Need-same-length-6 Inv-loop μ-loop
-same-length-6 c = c .before .before .before .before .before .before .before .before .before .loop .inv .room
+same-length-6 c = first-head (c .before .before) .loop .inv .room
 
 returns-2 : tie.Need-returns-2 Inv-loop μ-loop
 returns-2 c =
@@ -161,7 +189,15 @@ returns-2 c =
     let o = l .loop in
     let a = entry l .args in
     at-size l _ _ _ _
-    (first-bad (length (at-clear l .clear .last .0)) (a .stream .now) (a .doubles .now) (o .f) (o .d) (o .p) (o .doubles) (o .at) (o .n) (o .inv) (e .before .loop-test .taken) (e .if1 .left) (y .byte .result) (y .byte .ensures) (r .read-step .result) (r .read-step .ensures) (c .enum-told .given .1) _ refl refl)
+    (first-bad (size l) (a .stream .now) (a .doubles .now) (o .f) (o .d) (o .p) (o .doubles) (o .at) (o .n) (o .inv)
+    (e .before .loop-test .taken)
+    (e .if1 .left)
+    (y .byte .result)
+    (y .byte .ensures)
+    (r .read-step .result)
+    (r .read-step .ensures)
+    (c .enum-told .given .1)
+    _ refl refl)
 
 advance-requires : tie.Need-advance-requires Inv-loop μ-loop
 advance-requires c κs = search needs
@@ -205,44 +241,45 @@ enum-told-2 : tie.Need-enum-told-2 Inv-loop μ-loop
 enum-told-2 c = search needs
 
 same-length-10 : tie.Need-same-length-10 Inv-loop μ-loop
-same-length-10 c = half-f-length (c .before .before .before .before .before .before .before .before .before)
+same-length-10 c = half-f-length (at-half (c .before .before))
 
 same-length-11 : tie.Need-same-length-11 Inv-loop μ-loop
-same-length-11 c = half-d-length (c .before .before .before .before .before .before .before .before .before)
+same-length-11 c = half-d-length (at-half (c .before .before))
 
 same-length-12 : tie.Need-same-length-12 Inv-loop μ-loop
-same-length-12 c = halfway (c .before .before .before .before .before .before .before .before .before) .room
+same-length-12 c = halfway (at-half (c .before .before)) .room
 
 returns-4 : tie.Need-returns-4 Inv-loop μ-loop
 returns-4 c =
     let r = c .before .before in
-    let h = r .before .before .before .before .before .before .before in
-    let l = at-head h in
-    at-size l _ _ _ _
-    (second-bad _ _ _ _ _ _ _ _ _ _ (halfway h) (sym (r .before .before .before .before .odd-end .ensures) ∙ r .before .before .before .if2 .left) (r .read-step2 .result) (r .read-step2 .ensures) (c .enum-told2 .given .1) _ refl refl)
+    let h = at-half r in
+    at-size (at-head h) _ _ _ _
+    (second-bad _ _ _ _ _ _ _ _ _ _ (halfway h) (even r) (r .read-step2 .result) (r .read-step2 .ensures) (c .enum-told2 .given .1) _ refl refl)
 
 advance-requires-2 : tie.Need-advance-requires-2 Inv-loop μ-loop
-advance-requires-2 c κs = halfway (c .before .before .before .before .before .before .before .before .before .before .before .before) .within
+advance-requires-2 c κs = halfway (at-half (c .before .before .before .before .before)) .within
 
 add-put-double : tie.Need-add-put-double Inv-loop μ-loop
-add-put-double c = omega (arith, halfway (c .before .before .before .before .before .before .before .before .before .before .before .before .before .before .before .before .before .before) .most)
+add-put-double c = omega (arith, halfway (at-half (at-step (c .before .before .before .before .before))) .most)
 
 put-double-requires-2 : tie.Need-put-double-requires-2 Inv-loop μ-loop
 put-double-requires-2 c κs = search needs
 
 add-n : tie.Need-add-n Inv-loop μ-loop
-add-n c = omega (arith, halfway (c .before .before .before .before .before .before .before .before .before .before .before .before .before .before .before .before .before .before .before .before .before) .most)
+add-n c = omega (arith, halfway (at-half (at-step (c .before .before .before .before .before .before .before .before))) .most)
 
 loop-less : tie.Need-loop-less Inv-loop μ-loop
-loop-less c = omega (arith, halfway (c .before .before .before .before .before .before .before .before .before .before .before .before .before .before .before .before .before .before .before .before .before) .most)
+loop-less c = omega (arith, halfway (at-half (at-step (c .before .before .before .before .before .before .before .before))) .most)
 
 loop-again : tie.Need-loop-again Inv-loop μ-loop
 loop-again c =
     let u = c .before .before .before .before .before .before .before .before in
     let w = u .before .before .before .before in
-    let r = w .before .before in
-    let h = r .before .before .before .before .before .before .before in
-    second-double _ _ _ _ _ _ _ _ _ _ (halfway h) (sym (r .before .before .before .before .odd-end .ensures) ∙ r .before .before .before .if2 .left) (r .read-step2 .result) (r .read-step2 .ensures) (w .w .given .0 .0) (w .w .given .0 .1 .0) (w .w .given .1)
+    let r = at-step u in
+    second-double _ _ _ _ _ _ _ _ _ _ (halfway (at-half r)) (even r) (r .read-step2 .result) (r .read-step2 .ensures)
+    (w .w .given .0 .0)
+    (w .w .given .0 .1 .0)
+    (w .w .given .1)
     (u .advance2 .last .0)
     (u .advance2 .last .1 .0)
     (u .advance2 .result)
@@ -267,7 +304,8 @@ returns-5 c =
     let l = c .before in
     let o = l .loop in
     let a = entry l .args in
-    at-size l _ _ _ _ (reading-done (length (at-clear l .clear .last .0)) (a .stream .now) (a .doubles .now) (o .f) (o .d) (o .p) (o .doubles) (o .at) (o .n) (o .inv) (c .loop-test .left) _ refl refl)
+    at-size l _ _ _ _
+    (reading-done (size l) (a .stream .now) (a .doubles .now) (o .f) (o .d) (o .p) (o .doubles) (o .at) (o .n) (o .inv) (c .loop-test .left) _ refl refl)
 
 pub read-run-spec : {M : Type 1} → statement M
 read-run-spec =

@@ -1,18 +1,41 @@
 -- `fpc::write_measured` meets its contract: what was measured with no room is what is written for good. Assumes nothing.
-use mathlib.Core.List.{_++_}
-use mathlib.Core.Path.{ap, _∙_, subst}
-use Prim.Native.Nat.{ℕ}
+use mathlib.Core.List.{List, _++_}
+use mathlib.Core.Path.{_≡_, ap, _∙_, subst}
+use Prim.Native.Nat.{ℕ, _≤_}
 use native.Mathlib.Nat.{zero-add}
 use native.Mathlib.Omega.{arith}
 use lib.Seq.{sets}
 use lib.ListN.{length}
 use borrow.Author.Needs.{needs}
 use Rattle.fpc.specs.Calls.{Stand}
-use Rattle.predict.specs.Stream.{stream}
-use Rattle.fpc.proofs.Delivery.{cleared, short, whole}
-use Rattle.predict.proofs.Lengths.{stream-le}
+use Rattle.fpc_stream.specs.Stream.{stream}
+use Rattle.fpc.proofs.Delivery.{cleared, row-22, row-0}
+use Rattle.fpc_stream.proofs.Lengths.{stream-le}
 use Rattle.fpc.proofs.write_measured.Statement.{statement}
 use Rattle.fpc.proofs.write_measured.Tie as tie
+
+-- the places that the answers below go back to: the entry, and the measuring run seen from both ways after it
+abbrev entry : tie.After-write-run → tie.Start
+entry c = c .before .before .before .before .before .before .before .before
+
+abbrev too-long : tie.Then1 → tie.After-write-run
+too-long c = c .before .before .before .before .before .before .before
+
+abbrev fitting : tie.Else1 → tie.After-write-run
+fitting c = c .before .before .before .before .before .before .before
+
+-- what the measuring run was lent, and what it says: the part without places, the length of the stream, and tables of the size that they had
+abbrev size : tie.After-write-run → ℕ
+size c = length (entry c .args .f .now)
+
+abbrev part : tie.After-write-run → List ℕ
+part c = c .write-run .last .1 .1 .1 .0
+
+measured : (c : tie.After-write-run) → c .write-run .result ≡ length (stream (size c) (entry c .args .doubles .now))
+measured c = c .write-run .ensures .0 .moved ∙ zero-add _
+
+small : (c : tie.After-write-run) → c .write-run .result ≤ 34816
+small c = omega (arith, measured c, stream-le (size c) (entry c .args .doubles .now) (entry c .pre .1))
 
 slice-relend-prefix-write-run : tie.Need-slice-relend-prefix-write-run
 slice-relend-prefix-write-run c = search needs
@@ -24,12 +47,7 @@ write-run-requires : tie.Need-write-run-requires
 write-run-requires c κs = search needs
 
 cast-refused : tie.Need-cast-refused
-cast-refused c =
-    let r = c .before .before .before .before .before .before .before .before .before in
-    let s = r .before .before .before .before .before .before .before .before in
-    let a = s .args in
-    let n = length (a .f .now) in
-    omega (arith, r .write-run .ensures .0 .moved, stream-le n (a .doubles .now) (s .pre .1))
+cast-refused c = omega (arith, small (too-long (c .before .before)))
 
 refused-requires : tie.Need-refused-requires
 refused-requires c κs = search needs
@@ -47,28 +65,26 @@ returns : tie.Need-returns
 returns c =
     let x = c .before .before .before .before in
     let t = x .before .before .before in
-    let r = t .before .before .before .before .before .before .before in
-    let s = r .before .before .before .before .before .before .before .before in
-    let a = s .args in
-    let n = length (a .f .now) in
-    short n (a .doubles .now) (stream n (a .doubles .now)) (a .out .now) (r .write-run .last .1 .1 .1 .0) (r .write-run .result) (r .write-run .kept .1 .1 .1 .0)
-    (r .write-run .ensures .0 .moved ∙ zero-add _)
-    (t .if1 .taken)
-    (x .refused .result)
-    (x .refused .last .0)
-    (x .refused .last .1 .0)
-    (cleared n (r .write-run .last .0) (r .write-run .last .1 .0) 22 (r .write-run .result) (x .refused .result) (x .refused .last .0) (x .refused .last .1 .0) (r .write-run .kept .0) (r .write-run .kept .1 .0 ∙ s .pre .0 .same) (x .refused .ensures))
+    let r = too-long t in
+    let w = r .write-run in
+    let a = entry r .args in
+    let q = x .refused in
+    row-22 (size r) (a .doubles .now) (stream (size r) (a .doubles .now)) (a .out .now) (part r) (w .result) (w .kept .1 .1 .1 .0) (measured r) (t .if1 .taken)
+    (q .result)
+    (q .last .0)
+    (q .last .1 .0)
+    (cleared (size r) (w .last .0) (w .last .1 .0) 22 (w .result) (q .result) (q .last .0) (q .last .1 .0)
+    (w .kept .0)
+    (w .kept .1 .0 ∙ entry r .pre .0 .same)
+    (q .ensures))
 
 write-run-requires-2 : tie.Need-write-run-requires-2
 write-run-requires-2 c κs = search needs
 
 cast-t25 : tie.Need-cast-t25
 cast-t25 c =
-    let r = c .before .before .before .before .before .before .before .before .before .before .before .before .before .before .before .before .before in
-    let s = r .before .before .before .before .before .before .before .before in
-    let a = s .args in
-    let n = length (a .f .now) in
-    omega (arith, r .write-run .ensures .0 .moved, stream-le n (a .doubles .now) (s .pre .1))
+    let y = c .before .before .before .before .before .before in
+    omega (arith, small (fitting (y .before .before .before .before)))
 
 same-length-4 : tie.Need-same-length-4
 same-length-4 c = search needs
@@ -83,20 +99,16 @@ returns-2 : tie.Need-returns-2
 returns-2 c =
     let y = c .before .before .before .before .before .before in
     let t = y .before .before .before .before in
-    let r = t .before .before .before .before .before .before .before in
-    let s = r .before .before .before .before .before .before .before .before in
-    let a = s .args in
-    let n = length (a .f .now) in
-    let q = r .write-run .last .1 .1 .1 .0 in
-    let e = r .write-run .kept .0 in
-    whole n (a .doubles .now) (stream n (a .doubles .now)) (a .out .now) q (r .write-run .result) (r .write-run .kept .1 .1 .1 .0)
-    (r .write-run .ensures .0 .moved ∙ zero-add _)
-    (t .if1 .left)
-    (y .write-run2 .last .1 .1 .1 .0)
-    (y .write-run2 .last .0)
-    (y .write-run2 .last .1 .0)
-    (y .write-run2 .ensures .0 .put ∙ ap (λ (m : ℕ). sets (q ++ a .out .now) 0 (stream m (a .doubles .now))) e)
-    (subst (λ (m : ℕ). Stand m (a .doubles .now) (y .write-run2 .last .0) (y .write-run2 .last .1 .0)) e (y .write-run2 .ensures .1))
+    let r = fitting t in
+    let w = r .write-run in
+    let a = entry r .args in
+    let q = y .write-run2 in
+    row-0 (size r) (a .doubles .now) (stream (size r) (a .doubles .now)) (a .out .now) (part r) (w .result) (w .kept .1 .1 .1 .0) (measured r) (t .if1 .left)
+    (q .last .1 .1 .1 .0)
+    (q .last .0)
+    (q .last .1 .0)
+    (q .ensures .0 .put ∙ ap (λ (m : ℕ). sets (part r ++ a .out .now) 0 (stream m (a .doubles .now))) (w .kept .0))
+    (subst (λ (m : ℕ). Stand m (a .doubles .now) (q .last .0) (q .last .1 .0)) (w .kept .0) (q .ensures .1))
 
 pub write-measured-spec : {M : Type 1} → statement M
 write-measured-spec =

@@ -6,10 +6,10 @@ use native.Mathlib.Omega.{arith}
 use lib.Dec.{lit<}
 use lib.ListN.{length}
 use borrow.Author.Needs.{needs}
-use Rattle.predict.specs.Predictors.{Predictors, fcm, dfcm}
-use Rattle.steps.specs.Calls.{predictors, Appended}
-use Rattle.steps.proofs.WriteLaws.{odd-is}
-use Rattle.predict.proofs.CodeLaws.{half-lt}
+use Rattle.fpc_stream.specs.Predictors.{Predictors, fcm, dfcm}
+use Rattle.fpc_step.specs.Calls.{predictors, Appended}
+use Rattle.fpc_step.proofs.WriteLaws.{odd-is}
+use Rattle.fpc_stream.proofs.CodeLaws.{half-lt}
 use Rattle.fpc.proofs.write_odd.Statement.{statement}
 use Rattle.fpc.proofs.write_odd.Tie as tie
 
@@ -40,7 +40,9 @@ returns c =
     let s = x .before .before .before .before .before .before in
     let a = s .args in
     let e = x .encode .ensures in
-    let o = odd-is (length (a .f .now)) (predictors (a .f .now) (a .d .now) (a .p)) (a .v) (x .encode .result) (predictors (x .encode .last .0) (x .encode .last .1 .0) (x .encode .result .place)) e (a .p) in (
+    let w = x .encode in
+    let s₁ = predictors (w .last .0) (w .last .1 .0) (w .result .place) in
+    let o = odd-is (length (a .f .now)) (predictors (a .f .now) (a .d .now) (a .p)) (a .v) (w .result) s₁ e (a .p) in (
       subst (λ (l : List ℕ). Appended (a .out .now) (a .at) l (z .put-pair .result) (z .put-pair .last .0)) o (z .put-pair .ensures),
       (ap (λ (t : Predictors). t .f) (e .next), ap (λ (t : Predictors). t .d) (e .next)),
     )

@@ -1,12 +1,19 @@
 -- `fpc::write_pair` meets its contract: two doubles coded one after the other, and their pair written. Assumes nothing.
 use native.Mathlib.Omega.{arith}
 use borrow.Author.Needs.{needs}
-use Rattle.steps.specs.Calls.{predictors}
-use Rattle.predict.specs.Predictors.{fcm, dfcm}
-use Rattle.steps.proofs.WriteLaws.{within-next, pair-written}
-use Rattle.predict.proofs.CodeLaws.{half-lt}
+use Rattle.fpc_step.specs.Calls.{predictors}
+use Rattle.fpc_stream.specs.Predictors.{fcm, dfcm}
+use Rattle.fpc_step.proofs.WriteLaws.{within-next, pair-written}
+use Rattle.fpc_stream.proofs.CodeLaws.{half-lt}
 use Rattle.fpc.proofs.write_pair.Statement.{statement}
 use Rattle.fpc.proofs.write_pair.Tie as tie
+
+-- the places that the answers below go back to: the entry and the first double, seen from the doubles coded after them
+abbrev entry : tie.After-encode → tie.Start
+entry c = c .before .before .before .before .before .before
+
+abbrev first : tie.After-encode2 → tie.After-encode
+first c = c .before .before .before .before .before .before .before .before
 
 encode-requires : tie.Need-encode-requires
 encode-requires c κs = search needs
@@ -14,15 +21,16 @@ encode-requires c κs = search needs
 encode-requires-2 : tie.Need-encode-requires-2
 encode-requires-2 c κs =
     let u = c .before .before .before .before .before .before .before in
-    let s = u .before .before .before .before .before .before in
+    let s = entry u in
     let a = s .args in
-    within-next (a .f .now) (a .d .now) (a .p) (s .pre .0) (a .v) (u .encode .last .0) (u .encode .last .1 .0) (u .encode .result .place) (u .encode .ensures .next)
+    let e = u .encode in
+    within-next (a .f .now) (a .d .now) (a .p) (s .pre .0) (a .v) (e .last .0) (e .last .1 .0) (e .result .place) (e .ensures .next)
 
 put-pair-requires : tie.Need-put-pair-requires
 put-pair-requires c κs =
     let y = c .before .before .before .before .before .before in
-    let x = y .before .before .before .before .before .before .before .before in
-    let s = x .before .before .before .before .before .before in
+    let x = first y in
+    let s = entry x in
     let a = s .args in
     let p = predictors (a .f .now) (a .d .now) (a .p) in
     let q = predictors (x .encode .last .0) (x .encode .last .1 .0) (x .encode .result .place) in (
@@ -44,12 +52,14 @@ returns : tie.Need-returns
 returns c =
     let z = c .before .before in
     let y = z .before .before .before .before .before .before .before in
-    let x = y .before .before .before .before .before .before .before .before in
-    let s = x .before .before .before .before .before .before in
+    let x = first y in
+    let s = entry x in
     let a = s .args in
-    pair-written (a .f .now) (a .d .now) (a .p) (s .pre .0) (a .v) (a .w) (x .encode .result) (y .encode2 .result) (x .encode .last .0) (x .encode .last .1 .0) (y .encode2 .last .0) (y .encode2 .last .1 .0)
-    (x .encode .ensures)
-    (y .encode2 .ensures)
+    let d = x .encode in
+    let e = y .encode2 in
+    pair-written (a .f .now) (a .d .now) (a .p) (s .pre .0) (a .v) (a .w) (d .result) (e .result) (d .last .0) (d .last .1 .0) (e .last .0) (e .last .1 .0)
+    (d .ensures)
+    (e .ensures)
     (a .out .now)
     (a .at)
     (z .put-pair .result)

@@ -1,12 +1,13 @@
 -- `fpc::write_run` meets its contract. The invariant: writing the rest of the run from here gives what writing all of it from the start gives. Assumes nothing.
+use mathlib.Core.List.{List}
 use mathlib.Core.Path.{subst}
-use Prim.Native.Nat.{ℕ, _-_}
+use Prim.Native.Nat.{ℕ, _-_, _^_, _≤_}
 use native.Mathlib.Omega.{arith}
 use lib.ListN.{length}
 use borrow.Author.Needs.{needs}
-use Rattle.steps.specs.Calls.{Appended}
+use Rattle.fpc_step.specs.Calls.{Appended}
 use Rattle.fpc.specs.Calls.{Stand}
-use Rattle.predict.specs.Stream.{stream}
+use Rattle.fpc_stream.specs.Stream.{stream}
 use Rattle.fpc.proofs.RunLaws.{Writing, writing-start, writing-pair, writing-done, writing-odd}
 use Rattle.fpc.proofs.write_run.Statement.{statement}
 use Rattle.fpc.proofs.write_run.Tie as tie
@@ -16,6 +17,30 @@ Inv-loop f₀ d₀ doubles out₀ p₀ at₀ i₀ f d out p at i = Writing (leng
 
 abbrev μ-loop : tie.MeasureT-loop
 μ-loop f₀ d₀ doubles out₀ p₀ at₀ i₀ f d out p at i = length doubles - i
+
+-- the places that the answers below go back to, seen from the loop's head
+abbrev entry : tie.At-loop Inv-loop μ-loop → tie.Start Inv-loop μ-loop
+entry c = c .before .before .before .before .before .before .before .before .before .before .before .before .before
+
+abbrev at-clear : tie.At-loop Inv-loop μ-loop → tie.After-clear Inv-loop μ-loop
+at-clear c = c .before .before .before .before .before .before .before
+
+-- the size of the cleared tables
+abbrev size : tie.At-loop Inv-loop μ-loop → ℕ
+size c = length (at-clear c .clear .last .0)
+
+-- what a run at the cleared tables' size says at the lent tables' size, which is the same
+at-size : (c : tie.At-loop Inv-loop μ-loop) (r : ℕ) (out f d : List ℕ)
+    → Appended (entry c .args .out .now) 0 (stream (size c) (entry c .args .doubles .now)) r out × Stand (size c) (entry c .args .doubles .now) f d
+    → Appended (entry c .args .out .now) 0 (stream (length (entry c .args .f .now)) (entry c .args .doubles .now)) r out
+    × Stand (length (entry c .args .f .now)) (entry c .args .doubles .now) f d
+at-size c r out f d h =
+    let a = entry c .args in
+    subst (λ (n : ℕ). Appended (a .out .now) 0 (stream n (a .doubles .now)) r out × Stand n (a .doubles .now) f d) (at-clear c .clear .kept .0) h
+
+-- the next pair starts within reach
+near : (c : tie.At-loop Inv-loop μ-loop) → c .loop .at ≤ 2 ^ 20
+near c = omega (arith, c .loop .inv .near, c .loop .inv .counted, entry c .pre .1)
 
 clear-requires : tie.Need-clear-requires Inv-loop μ-loop
 clear-requires c κs = search needs
@@ -29,7 +54,9 @@ loop-holds c =
     let x = y .before .before .before .before in
     let s = x .before .before .before .before .before .before in
     let a = s .args in
-    writing-start (x .clear .last .0) (y .clear2 .last .0) (a .doubles .now) (a .out .now) (a .f .now) (a .d .now) (s .pre .0) (x .clear .ensures) (y .clear2 .ensures)
+    writing-start (x .clear .last .0) (y .clear2 .last .0) (a .doubles .now) (a .out .now) (a .f .now) (a .d .now) (s .pre .0)
+    (x .clear .ensures)
+    (y .clear2 .ensures)
 
 add-loop : tie.Need-add-loop Inv-loop μ-loop
 add-loop c = search needs
@@ -51,8 +78,8 @@ shared-slice-read-write-pair-2 c = search needs
 
 write-pair-requires : tie.Need-write-pair-requires Inv-loop μ-loop
 write-pair-requires c κs =
-    let l = c .before .before .before .before .before .before .loop in
-    (l .inv .within, omega (arith, l .inv .near, l .inv .counted, c .before .before .before .before .before .before .before .before .before .before .before .before .before .before .before .before .before .before .before .pre .1))
+    let l = c .before .before .before .before .before .before in
+    (l .loop .inv .within, near l)
 
 add-i : tie.Need-add-i Inv-loop μ-loop
 add-i c = search needs
@@ -65,16 +92,17 @@ loop-again c =
     let r = c .before .before .before .before .before .before .before in
     let l = r .before .before .before .before .before .before .before in
     let o = l .loop in
-    let x = l .before .before .before .before .before .before .before in
-    let a = x .before .before .before .before .before .before .args in
-    writing-pair (length (x .clear .last .0)) (a .doubles .now) (a .out .now) (o .f) (o .d) (o .p) (o .out) (o .at) (o .i) (o .inv) (r .before .before .before .before .before .before .loop-test .taken)
-    (r .write-pair .result .next)
-    (r .write-pair .last .1 .1 .1 .1 .1 .0)
-    (r .write-pair .last .0)
-    (r .write-pair .last .1 .0)
-    (r .write-pair .result .place)
-    (r .write-pair .ensures .0)
-    (r .write-pair .ensures .1)
+    let a = entry l .args in
+    let w = r .write-pair in
+    writing-pair (size l) (a .doubles .now) (a .out .now) (o .f) (o .d) (o .p) (o .out) (o .at) (o .i) (o .inv)
+    (r .before .before .before .before .before .before .loop-test .taken)
+    (w .result .next)
+    (w .last .1 .1 .1 .1 .1 .0)
+    (w .last .0)
+    (w .last .1 .0)
+    (w .result .place)
+    (w .ensures .0)
+    (w .ensures .1)
 
 mul-write-odd : tie.Need-mul-write-odd Inv-loop μ-loop
 mul-write-odd c = search needs
@@ -84,8 +112,8 @@ shared-slice-read-write-odd c = search needs
 
 write-odd-requires : tie.Need-write-odd-requires Inv-loop μ-loop
 write-odd-requires c κs =
-    let l = c .before .before .before .before .before .before .loop in
-    (l .inv .within, omega (arith, l .inv .near, l .inv .counted, c .before .before .before .before .before .before .before .before .before .before .before .before .before .before .before .before .before .before .before .pre .1))
+    let l = c .before .before .before .before .before .before in
+    (l .loop .inv .within, near l)
 
 same-length : tie.Need-same-length Inv-loop μ-loop
 same-length c = search needs
@@ -101,16 +129,16 @@ returns c =
     let r = c .before .before .before .before .before .before in
     let l = r .before .before .before .before .before .before .before in
     let o = l .loop in
-    let x = l .before .before .before .before .before .before .before in
-    let a = x .before .before .before .before .before .before .args in
-    subst (λ (n : ℕ). Appended (a .out .now) 0 (stream n (a .doubles .now)) (r .write-odd .result) (r .write-odd .last .1 .1 .1 .1 .0) × Stand n (a .doubles .now) (r .write-odd .last .0) (r .write-odd .last .1 .0)) (x .clear .kept .0)
-    (writing-odd (length (x .clear .last .0)) (a .doubles .now) (a .out .now) (o .f) (o .d) (o .p) (o .out) (o .at) (o .i) (o .inv) (omega arith)
-    (r .write-odd .result)
-    (r .write-odd .last .1 .1 .1 .1 .0)
-    (r .write-odd .last .0)
-    (r .write-odd .last .1 .0)
-    (r .write-odd .ensures .0)
-    (r .write-odd .ensures .1))
+    let a = entry l .args in
+    let w = r .write-odd in
+    at-size l (w .result) (w .last .1 .1 .1 .1 .0) (w .last .0) (w .last .1 .0)
+    (writing-odd (size l) (a .doubles .now) (a .out .now) (o .f) (o .d) (o .p) (o .out) (o .at) (o .i) (o .inv) (omega arith)
+    (w .result)
+    (w .last .1 .1 .1 .1 .0)
+    (w .last .0)
+    (w .last .1 .0)
+    (w .ensures .0)
+    (w .ensures .1))
 
 same-length-4 : tie.Need-same-length-4 Inv-loop μ-loop
 same-length-4 c = search needs
@@ -125,10 +153,9 @@ returns-2 : tie.Need-returns-2 Inv-loop μ-loop
 returns-2 c =
     let l = c .before .before in
     let o = l .loop in
-    let x = l .before .before .before .before .before .before .before in
-    let a = x .before .before .before .before .before .before .args in
-    subst (λ (n : ℕ). Appended (a .out .now) 0 (stream n (a .doubles .now)) (o .at) (o .out) × Stand n (a .doubles .now) (o .f) (o .d)) (x .clear .kept .0)
-    (writing-done (length (x .clear .last .0)) (a .doubles .now) (a .out .now) (o .f) (o .d) (o .p) (o .out) (o .at) (o .i) (o .inv) (c .if1 .left))
+    let a = entry l .args in
+    at-size l (o .at) (o .out) (o .f) (o .d)
+    (writing-done (size l) (a .doubles .now) (a .out .now) (o .f) (o .d) (o .p) (o .out) (o .at) (o .i) (o .inv) (c .if1 .left))
 
 pub write-run-spec : {M : Type 1} → statement M
 write-run-spec =

@@ -1,0 +1,75 @@
+// Bytes and doubles in lent slices. What is put past the room is left out.
+ghost use mathlib.Core.Path.{_≡_};
+ghost use Prim.Native.Nat.{_+_, _^_, _≤_};
+ghost use lib.ListN.{length, take, drop, set, replicate};
+ghost use lib.Seq.{sets};
+ghost use Rattle.fpc_stream.specs.Bytes.{lowBytes, fromBytes};
+
+fn wide(x: u8) -> u64
+    ensures { λ r. ⌜ r ≡ x ⌝ }
+{
+    x as u64
+}
+
+pub fn byte(x: u8) -> u32
+    ensures { λ r. ⌜ r ≡ x ⌝ }
+{
+    x as u32
+}
+
+// Zeros in every place.
+pub fn clear(t: &mut [u64])
+    ensures { λ r. ⌜ now (t .exit) ≡ replicate (length (now (t .entry))) 0 ⌝ }
+{
+    let mut i = 0;
+    while i < t.len() {
+        t[i] = 0;
+        i += 1;
+    }
+}
+
+// The byte b at place `at`; nothing past the room.
+pub fn put(out: &mut [u8], at: usize, b: u8)
+    ensures { λ r. ⌜ now (out .exit) ≡ set (now (out .entry)) at b ⌝ }
+{
+    if at < out.len() {
+        out[at] = b;
+    }
+}
+
+// The n lowest bytes of x from place `at` on, lowest first; nothing past the room.
+pub fn put_bytes(out: &mut [u8], at: usize, x: u64, n: usize)
+    requires { ⌜ (at ≤ 2 ^ 32) × (n ≤ 8) ⌝ }
+    ensures { λ r. ⌜ now (out .exit) ≡ sets (now (out .entry)) at (lowBytes n x) ⌝ }
+{
+    let mut i = 0;
+    let mut y = x;
+    while i < n {
+        put(out, at + i, (y % 256) as u8);
+        y = y / 256;
+        i += 1;
+    }
+}
+
+// The double v at place n; nothing past the room.
+pub fn put_double(doubles: &mut [u64], n: usize, v: u64)
+    ensures { λ r. ⌜ now (doubles .exit) ≡ set (now (doubles .entry)) n v ⌝ }
+{
+    if n < doubles.len() {
+        doubles[n] = v;
+    }
+}
+
+// The number of the n bytes from place `at` on, lowest byte first.
+pub fn word(s: &[u8], at: usize, n: usize) -> u64
+    requires { ⌜ (at + n ≤ length (now s)) × (n ≤ 8) ⌝ }
+    ensures { λ r. ⌜ r ≡ fromBytes (take n (drop at (now (s .entry)))) ⌝ }
+{
+    let mut i = n;
+    let mut x: u64 = 0;
+    while i > 0 {
+        i -= 1;
+        x = x * 256 + wide(s[at + i]);
+    }
+    x
+}

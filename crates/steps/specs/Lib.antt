@@ -1,2 +1,0 @@
--- The definitions that the contracts of `steps` cite, beside those of `predict`.
-pub mod Calls
