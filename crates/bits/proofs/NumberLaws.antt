@@ -11,7 +11,8 @@ use lib.Bits.{block-half, block-odd}
 use lib.ListN.{length, getD, take, length-append}
 use lib.Pow.{shr-shr, shr-lt, split, high, pow-pos, pow-add}
 use lib.Seq.{sets, sets-eq, take-append-seam, drop-append-add, drop-at}
-use Rattle.bits.specs.Stream.{bit, digit, numberBits, numberOf, withBits}
+use Rattle.bits.specs.Stream.{bit, digit, numberBits, numberOf}
+use Rattle.bits.specs.Calls.{withBits}
 
 pub length-numberBits : (k n : ℕ) → length (numberBits k n) ≡ k
 length-numberBits zero n = refl

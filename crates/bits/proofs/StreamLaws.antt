@@ -7,7 +7,8 @@ use native.Mathlib.Nat.{zero-add, suc-add}
 use native.Mathlib.Omega.{arith}
 use lib.ListN.{length, getD, set, take, drop, length-append, take-append-drop, List·getD-append}
 use lib.Seq.{sets, set-append-left, length-sets, getD-append-add, take-append-seam, drop-append-seam, take-append-le, drop-append-add, drop-at, slice, slice-cons, slice-empty, length-slice, take-nil, take-take, drop-drop}
-use Rattle.bits.specs.Stream.{bit, digit, numberBits, numberOf, bitsOf, withBits}
+use Rattle.bits.specs.Stream.{bit, digit, numberBits, numberOf, bitsOf}
+use Rattle.bits.specs.Calls.{withBits}
 use Rattle.bits.proofs.NumberLaws.{length-numberBits, numberBits-add, numberBits-take, getD-numberBits, number-back, number-low, numberOf-append, numberOf-lt, withBits-bits}
 
 pub length-bitsOf : (l : List ℕ) → length (bitsOf l) ≡ 8 * length l

@@ -10,7 +10,8 @@ use lib.ListN.{length, getD, set, take, length-append, length-take, drop}
 use mathlib.Core.Logic.{_⊎_, inl, inr}
 use lib.Seq.{slice, take-set-le, take-set-lt, drop-set-lt, length-take-le, take-add, take-append-add, drop-at, sets-eq, sets, length-sets, take-nil, take-all, getD-set-other}
 use Rattle.bits.specs.declared.Cursor.{Cursor}
-use Rattle.bits.specs.Stream.{numberBits, write, Written}
+use Rattle.bits.specs.Stream.{numberBits, write}
+use Rattle.bits.specs.Calls.{Written}
 use Rattle.bits.proofs.NumberLaws.{length-numberBits, numberBits-add, numberBits-take}
 
 pub length-write : (d : List Bool) (at limit : ℕ) (code : List Bool) → length (write d at limit code) ≡ length d

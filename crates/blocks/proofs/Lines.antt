@@ -1,15 +1,17 @@
 -- A transform of every line: it keeps the length and the words, and is undone line by line.
 use mathlib.Core.Path.{_≡_, refl, sym, ap, _∙_}
 use mathlib.Core.List.{List, [], _∷_}
-use Prim.Native.Nat.{ℕ, zero, suc, _+_, _-_, _*_, _/_, _%_, _<_}
+use Prim.Native.Nat.{ℕ, zero, suc, _+_, _-_, _*_, _/_, _%_, _^_, _<_}
 use native.Mathlib.Nat.{zero-lt-suc, add-mul, add-sub-cancel, sub-add-cancel, div-add-mod', mod-lt, div-lt-iff-lt-mul}
 use native.Mathlib.Omega.{arith}
 use lib.Arith.{digits-lt, digits-div, digits-mod}
 use lib.ListN.{length, getD}
 use lib.Seq.{ext-getD}
+use Rattle.words.specs.Word.{AllBelow}
 use Rattle.blocks.specs.Four.{Transform}
-use Rattle.blocks.specs.Axes.{line, onFour, along}
-use Rattle.blocks.proofs.Lists.{length-tabulate, getD-tabulate, Words, words-tabulate}
+use Rattle.blocks.specs.Axes.{line, along}
+use Rattle.blocks.specs.Calls.{onFour}
+use Rattle.blocks.proofs.Lists.{length-tabulate, getD-tabulate, words-tabulate}
 use Rattle.blocks.proofs.Steps.{Keeps, Undoes}
 
 module _ (t : Transform) (s : ℕ) (ws : List ℕ) where
@@ -17,7 +19,7 @@ module _ (t : Transform) (s : ℕ) (ws : List ℕ) where
   unfolding along
   length-along = length-tabulate (length ws) _
 
-  pub words-along : (k : ℕ) → Keeps k t → Words k ws → Words k (along t s ws)
+  pub words-along : (k : ℕ) → Keeps k t → AllBelow (2 ^ k) ws → AllBelow (2 ^ k) (along t s ws)
   unfolding along
   words-along k keeps h = words-tabulate k (length ws) _ (λ p. keeps _ _ _ _ (h _) (h _) (h _) (h _) (p / s % 4))
 
@@ -75,7 +77,7 @@ pick s b ws (suc (suc (suc (suc q)))) h = absurd (omega arith)
 
 -- where g undoes f on the words of a line, it does so on every line
 module _ (k : ℕ) (g f : Transform) (undoes : Undoes k g f) (s m : ℕ) (some : 0 < s)
-    (ws : List ℕ) (long : length ws ≡ m * 4 * s) (words : Words k ws) where
+    (ws : List ℕ) (long : length ws ≡ m * 4 * s) (words : AllBelow (2 ^ k) ws) where
   line-back : (p : ℕ) → p < m * 4 * s → getD (line g s (p - p / s % 4 * s) (along f s ws)) (p / s % 4) 0 ≡ getD ws p 0
   line-back p h =
       let b = p - p / s % 4 * s in

@@ -6,6 +6,8 @@ use native.Mathlib.Omega.{arith}
 use lib.ListN.{length, getD}
 use lib.Seq.{ext-getD}
 use lib.Pow.{pow-pos}
+use Rattle.words.specs.Word.{AllBelow}
+use Rattle.words.proofs.Below.{nil-below, cons-below}
 use Rattle.blocks.specs.Axes.{tabulate}
 
 module _ {ℓ} {A : Type ℓ} where
@@ -29,27 +31,16 @@ getD-map-in f [] i h = absurd (omega arith)
 getD-map-in f (x ∷ l) zero h = refl
 getD-map-in f (x ∷ l) (suc i) h = getD-map-in f l i (omega arith)
 
--- every word is below 2 ^ w
-abbrev pub Words : ℕ → List ℕ → Type 0
-Words w ws = (i : ℕ) → getD ws i 0 < 2 ^ w
-
 module _ (w : ℕ) where
-  pub words-none : Words w []
-  words-none i = pow-pos w
+  pub words-tabulate : (n : ℕ) (f : ℕ → ℕ) → ((i : ℕ) → f i < 2 ^ w) → AllBelow (2 ^ w) (tabulate n f)
+  words-tabulate zero f h = nil-below (2 ^ w) (pow-pos w)
+  words-tabulate (suc n) f h = cons-below (2 ^ w) (f 0) (tabulate n (λ i. f (suc i))) (h 0) (words-tabulate n (λ i. f (suc i)) (λ i. h (suc i)))
 
-  pub words-more : (x : ℕ) (ws : List ℕ) → x < 2 ^ w → Words w ws → Words w (x ∷ ws)
-  words-more x ws h hs zero = h
-  words-more x ws h hs (suc i) = hs i
-
-  pub words-tabulate : (n : ℕ) (f : ℕ → ℕ) → ((i : ℕ) → f i < 2 ^ w) → Words w (tabulate n f)
-  words-tabulate zero f h = words-none
-  words-tabulate (suc n) f h = words-more (f 0) (tabulate n (λ i. f (suc i))) (h 0) (words-tabulate n (λ i. f (suc i)) (λ i. h (suc i)))
-
-  pub words-map : (f : ℕ → ℕ) → ((x : ℕ) → f x < 2 ^ w) → (l : List ℕ) → Words w (map f l)
-  words-map f h [] = words-none
-  words-map f h (x ∷ l) = words-more (f x) (map f l) (h x) (words-map f h l)
+  pub words-map : (f : ℕ → ℕ) → ((x : ℕ) → f x < 2 ^ w) → (l : List ℕ) → AllBelow (2 ^ w) (map f l)
+  words-map f h [] = nil-below (2 ^ w) (pow-pos w)
+  words-map f h (x ∷ l) = cons-below (2 ^ w) (f x) (map f l) (h x) (words-map f h l)
 
   -- where g undoes f on words
-  pub map-back : (g f : ℕ → ℕ) → ((x : ℕ) → x < 2 ^ w → g (f x) ≡ x) → (l : List ℕ) → Words w l → map g (map f l) ≡ l
+  pub map-back : (g f : ℕ → ℕ) → ((x : ℕ) → x < 2 ^ w → g (f x) ≡ x) → (l : List ℕ) → AllBelow (2 ^ w) l → map g (map f l) ≡ l
   map-back g f e [] h = refl
   map-back g f e (x ∷ l) h = ap₂ {C = List ℕ} (λ y r. y ∷ r) (e x (h 0)) (map-back g f e l (λ i. h (suc i)))

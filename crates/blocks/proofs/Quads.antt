@@ -6,7 +6,8 @@ use Prim.Native.Nat.{ℕ}
 use lib.ListN.{length, getD}
 use Rattle.words.specs.Word.{nega, unnega}
 use Rattle.blocks.specs.Four.{unlift, undiffer, writing, reading}
-use Rattle.blocks.specs.Axes.{tabulate, onFour, along}
+use Rattle.blocks.specs.Axes.{tabulate, along}
+use Rattle.blocks.specs.Calls.{onFour}
 use Rattle.blocks.specs.Order.{reorder, restore}
 use Rattle.blocks.specs.Coefficients.{coefficients, values}
 use Rattle.blocks.proofs.Lists.{tabulate-getD}

@@ -5,7 +5,7 @@ use mathlib.Core.List.{List}
 use Prim.Native.Nat.{ℕ}
 use Rattle.blocks.specs.Four.{Transform, writing, reading}
 use Rattle.blocks.specs.Axes.{along, forward, backward}
-use Rattle.blocks.specs.Square.{flat, eachRow, transposed}
+use Rattle.blocks.specs.Calls.{flat, eachRow, transposed}
 
 module _ (t : Transform) (rows : List (List ℕ)) where
   pub rows-along : flat (eachRow t rows) ≡ along t 1 (flat rows)

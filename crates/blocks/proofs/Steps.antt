@@ -5,20 +5,19 @@ use mathlib.Core.List.{[], _∷_}
 use Prim.Native.Nat.{ℕ, zero, suc, _^_, _<_}
 use lib.Pow.{pow-pos}
 use Rattle.words.proofs.Sums.{plus-lt, minus-lt, plus-minus, minus-plus}
-use Rattle.words.specs.Word.{plus, minus}
+use Rattle.words.specs.Word.{plus, minus, AllBelow}
 use Rattle.blocks.specs.Four.{Transform, twiceLess, unlift, differ, undiffer, reading}
-use Rattle.blocks.specs.Axes.{onFour}
-use Rattle.blocks.proofs.Lists.{Words}
+use Rattle.blocks.specs.Calls.{onFour}
 
 -- words of k bits give words of k bits
 abbrev pub Keeps : ℕ → Transform → Type 0
-Keeps k t = (x y z w : ℕ) → x < 2 ^ k → y < 2 ^ k → z < 2 ^ k → w < 2 ^ k → Words k (t x y z w)
+Keeps k t = (x y z w : ℕ) → x < 2 ^ k → y < 2 ^ k → z < 2 ^ k → w < 2 ^ k → AllBelow (2 ^ k) (t x y z w)
 
 -- g after f gives words of k bits back
 abbrev pub Undoes : ℕ → Transform → Transform → Type 0
 Undoes k g f = (x y z w : ℕ) → x < 2 ^ k → y < 2 ^ k → z < 2 ^ k → w < 2 ^ k → onFour g (f x y z w) ≡ x ∷ y ∷ z ∷ w ∷ []
 
-words-four : (k : ℕ) {x y z w : ℕ} → x < 2 ^ k → y < 2 ^ k → z < 2 ^ k → w < 2 ^ k → Words k (x ∷ y ∷ z ∷ w ∷ [])
+words-four : (k : ℕ) {x y z w : ℕ} → x < 2 ^ k → y < 2 ^ k → z < 2 ^ k → w < 2 ^ k → AllBelow (2 ^ k) (x ∷ y ∷ z ∷ w ∷ [])
 words-four k hx hy hz hw zero = hx
 words-four k hx hy hz hw (suc zero) = hy
 words-four k hx hy hz hw (suc (suc zero)) = hz

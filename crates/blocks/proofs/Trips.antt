@@ -5,9 +5,9 @@ use mathlib.Core.List.{List}
 use Prim.Native.Nat.{ℕ, zero, suc, _*_, _^_, _<_}
 use native.Mathlib.Nat.{zero-lt-suc, one-le-pow, pow-succ', mul-assoc, one-mul}
 use lib.ListN.{length}
+use Rattle.words.specs.Word.{AllBelow}
 use Rattle.blocks.specs.Four.{differ, undiffer, writing, reading}
 use Rattle.blocks.specs.Axes.{along, forward, backward}
-use Rattle.blocks.proofs.Lists.{Words}
 use Rattle.blocks.proofs.Steps.{Keeps, keeps-differ, keeps-undiffer, undiffer-differ, differ-undiffer}
 use Rattle.blocks.proofs.Lines.{length-along, words-along, along-back}
 
@@ -20,11 +20,11 @@ module _ (w : ℕ) (exact : Bool) where
   length-backward zero ws = refl
   length-backward (suc a) ws = length-backward a (along (reading w exact) (4 ^ a) ws) ∙ length-along (reading w exact) (4 ^ a) ws
 
-  pub words-forward : Keeps w (writing w exact) → (d : ℕ) (ws : List ℕ) → Words w ws → Words w (forward w exact d ws)
+  pub words-forward : Keeps w (writing w exact) → (d : ℕ) (ws : List ℕ) → AllBelow (2 ^ w) ws → AllBelow (2 ^ w) (forward w exact d ws)
   words-forward keeps zero ws h = h
   words-forward keeps (suc a) ws h = words-along (writing w exact) (4 ^ a) (forward w exact a ws) w keeps (words-forward keeps a ws h)
 
-  pub words-backward : Keeps w (reading w exact) → (d : ℕ) (ws : List ℕ) → Words w ws → Words w (backward w exact d ws)
+  pub words-backward : Keeps w (reading w exact) → (d : ℕ) (ws : List ℕ) → AllBelow (2 ^ w) ws → AllBelow (2 ^ w) (backward w exact d ws)
   words-backward keeps zero ws h = h
   words-backward keeps (suc a) ws h =
       words-backward keeps a (along (reading w exact) (4 ^ a) ws) (words-along (reading w exact) (4 ^ a) ws w keeps h)
@@ -37,7 +37,7 @@ stride : (a : ℕ) → 0 < 4 ^ a
 stride a = one-le-pow a 4 (zero-lt-suc 3)
 
 module _ (w : ℕ) where
-  trip : (d m : ℕ) (ws : List ℕ) → length ws ≡ m * 4 ^ d → Words w ws → backward w true d (forward w true d ws) ≡ ws
+  trip : (d m : ℕ) (ws : List ℕ) → length ws ≡ m * 4 ^ d → AllBelow (2 ^ w) ws → backward w true d (forward w true d ws) ≡ ws
   trip zero m ws long words = refl
   trip (suc a) m ws long words =
       ap (backward w true a)
@@ -45,7 +45,7 @@ module _ (w : ℕ) where
       (length-forward w true a ws ∙ long ∙ in-lines m a) (words-forward w true (keeps-differ w) a ws words))
       ∙ trip a (m * 4) ws (long ∙ in-lines m a) words
 
-  trip-back : (d m : ℕ) (ws : List ℕ) → length ws ≡ m * 4 ^ d → Words w ws → forward w true d (backward w true d ws) ≡ ws
+  trip-back : (d m : ℕ) (ws : List ℕ) → length ws ≡ m * 4 ^ d → AllBelow (2 ^ w) ws → forward w true d (backward w true d ws) ≡ ws
   trip-back zero m ws long words = refl
   trip-back (suc a) m ws long words =
       let read = along (undiffer w) (4 ^ a) ws in
@@ -55,8 +55,8 @@ module _ (w : ℕ) where
       ∙ along-back w (differ w) (undiffer w) (differ-undiffer w) (4 ^ a) m (stride a) ws (long ∙ in-lines m a) words
 
   -- exact reading undoes exact writing, in every dimension
-  pub backward-forward : (d : ℕ) (ws : List ℕ) → length ws ≡ 4 ^ d → Words w ws → backward w true d (forward w true d ws) ≡ ws
+  pub backward-forward : (d : ℕ) (ws : List ℕ) → length ws ≡ 4 ^ d → AllBelow (2 ^ w) ws → backward w true d (forward w true d ws) ≡ ws
   backward-forward d ws long words = trip d 1 ws (long ∙ sym (one-mul (4 ^ d))) words
 
-  pub forward-backward : (d : ℕ) (ws : List ℕ) → length ws ≡ 4 ^ d → Words w ws → forward w true d (backward w true d ws) ≡ ws
+  pub forward-backward : (d : ℕ) (ws : List ℕ) → length ws ≡ 4 ^ d → AllBelow (2 ^ w) ws → forward w true d (backward w true d ws) ≡ ws
   forward-backward d ws long words = trip-back d 1 ws (long ∙ sym (one-mul (4 ^ d))) words

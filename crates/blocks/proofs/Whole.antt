@@ -4,31 +4,31 @@ use mathlib.Core.Bool.{Bool, true}
 use mathlib.Core.List.{List, map}
 use Prim.Native.Nat.{ℕ, _^_}
 use lib.ListN.{length, length-map}
-use Rattle.words.specs.Word.{nega, unnega}
+use Rattle.words.specs.Word.{nega, unnega, AllBelow}
 use Rattle.words.proofs.Negabinary.{nega-lt, unnega-lt, unnega-nega, nega-unnega}
 use Rattle.blocks.specs.Axes.{forward, backward}
 use Rattle.blocks.specs.Order.{order, reorder, restore, inOrder, entryOf}
 use Rattle.blocks.specs.Coefficients.{coefficients, values}
-use Rattle.blocks.proofs.Lists.{Words, words-tabulate, words-map, map-back}
+use Rattle.blocks.proofs.Lists.{words-tabulate, words-map, map-back}
 use Rattle.blocks.proofs.Steps.{keeps-reading, keeps-differ}
 use Rattle.blocks.proofs.Trips.{length-forward, length-backward, words-forward, words-backward, backward-forward, forward-backward}
 use Rattle.blocks.proofs.Tables.{length-reorder, length-restore, restore-reorder, reorder-restore}
 use Rattle.blocks.proofs.Orders.{ordered}
 
-module _ (w : ℕ) (t ws : List ℕ) (words : Words w ws) where
-  pub words-reorder : Words w (reorder t ws)
+module _ (w : ℕ) (t ws : List ℕ) (words : AllBelow (2 ^ w) ws) where
+  pub words-reorder : AllBelow (2 ^ w) (reorder t ws)
   unfolding reorder
   words-reorder = words-map w _ (λ p. words p) t
 
-  pub words-restore : Words w (restore t ws)
+  pub words-restore : AllBelow (2 ^ w) (restore t ws)
   unfolding restore
   words-restore = words-tabulate w (length t) _ (λ p. words (entryOf p t))
 
-pub words-coefficients : (w : ℕ) (exact : Bool) (d : ℕ) (ws : List ℕ) → Words w (coefficients w exact d ws)
+pub words-coefficients : (w : ℕ) (exact : Bool) (d : ℕ) (ws : List ℕ) → AllBelow (2 ^ w) (coefficients w exact d ws)
 unfolding coefficients
 words-coefficients w exact d ws = words-map w (nega w) (nega-lt w) (reorder (order d) (forward w exact d ws))
 
-pub words-values : (w : ℕ) (exact : Bool) (d : ℕ) (cs : List ℕ) → Words w (values w exact d cs)
+pub words-values : (w : ℕ) (exact : Bool) (d : ℕ) (cs : List ℕ) → AllBelow (2 ^ w) (values w exact d cs)
 unfolding values
 words-values w exact d cs =
     words-backward w exact (keeps-reading w exact) d _ (words-restore w (order d) _ (words-map w (unnega w) (unnega-lt w) cs))
@@ -44,11 +44,11 @@ module _ (d : ℕ) (test : inOrder d (order d) ≡ true) (w : ℕ) where
   length-values exact cs = length-backward w exact d _ ∙ length-restore (order d) _ ∙ ordered d (order d) test .places .long
 
   -- an exact block comes back
-  pub values-coefficients : (ws : List ℕ) → length ws ≡ 4 ^ d → Words w ws → values w true d (coefficients w true d ws) ≡ ws
+  pub values-coefficients : (ws : List ℕ) → length ws ≡ 4 ^ d → AllBelow (2 ^ w) ws → values w true d (coefficients w true d ws) ≡ ws
   unfolding coefficients values
   values-coefficients ws long words =
       let made = forward w true d ws in
-      let fw : Words w made = words-forward w true (keeps-differ w) d ws words in
+      let fw : AllBelow (2 ^ w) made = words-forward w true (keeps-differ w) d ws words in
       ap (λ (l : List ℕ). backward w true d (restore (order d) l))
       (map-back w (unnega w) (nega w) (unnega-nega w) (reorder (order d) made) (words-reorder w (order d) made fw))
       ∙ ap (backward w true d)
@@ -56,12 +56,12 @@ module _ (d : ℕ) (test : inOrder d (order d) ≡ true) (w : ℕ) where
       ∙ backward-forward w d ws long words
 
   -- and so do the coefficients of one
-  pub coefficients-values : (cs : List ℕ) → length cs ≡ 4 ^ d → Words w cs → coefficients w true d (values w true d cs) ≡ cs
+  pub coefficients-values : (cs : List ℕ) → length cs ≡ 4 ^ d → AllBelow (2 ^ w) cs → coefficients w true d (values w true d cs) ≡ cs
   unfolding coefficients values
   coefficients-values cs long words =
       let plain = map (unnega w) cs in
       let back = restore (order d) plain in
-      let pw : Words w plain = words-map w (unnega w) (unnega-lt w) cs in
+      let pw : AllBelow (2 ^ w) plain = words-map w (unnega w) (unnega-lt w) cs in
       let table = ordered d (order d) test .places in
       ap (λ (l : List ℕ). map (nega w) (reorder (order d) l))
       (forward-backward w d back (length-restore (order d) plain ∙ table .long) (words-restore w (order d) plain pw))

@@ -15,10 +15,6 @@ tabulate (suc n) f = f 0 ∷ tabulate n (λ i. f (suc i))
 abbrev pub line : Transform → ℕ → ℕ → List ℕ → List ℕ
 line t s b ws = t (getD ws b 0) (getD ws (b + s) 0) (getD ws (b + 2 * s) 0) (getD ws (b + 3 * s) 0)
 
--- t of four values in a list
-abbrev pub onFour : Transform → List ℕ → List ℕ
-onFour t q = line t 1 0 q
-
 -- t of every line of stride s: place p is value q = p / s mod 4 of the line that starts q strides before it
 unfoldable pub along : Transform → ℕ → List ℕ → List ℕ
 along t s ws = tabulate (length ws) (λ p. getD (line t s (p - p / s % 4 * s) ws) (p / s % 4) 0)

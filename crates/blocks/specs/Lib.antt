@@ -1,6 +1,6 @@
 -- The definitions that the contracts of `blocks` cite.
 pub mod Four
 pub mod Axes
-pub mod Square
 pub mod Order
 pub mod Coefficients
+pub mod Calls

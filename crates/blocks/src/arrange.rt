@@ -5,7 +5,8 @@ ghost use mathlib.Core.Path.{_≡_};
 ghost use mathlib.Core.List.{map};
 ghost use Prim.Native.Nat.{_<_};
 ghost use lib.ListN.{getD};
-ghost use Rattle.words.specs.Word.{Size, nega, unnega};
+ghost use Rattle.words.specs.Word.{nega, unnega};
+ghost use Rattle.words.specs.Calls.{Size};
 ghost use Rattle.blocks.specs.Order.{order, reorder, restore};
 
 // By i + j, then by i^2 + j^2, ties by larger i first.

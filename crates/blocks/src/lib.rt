@@ -15,7 +15,7 @@ use words::nega;
 use words::unnega;
 ghost use mathlib.Core.Path.{_≡_};
 ghost use lib.ListN.{length};
-ghost use Rattle.words.specs.Word.{Size};
+ghost use Rattle.words.specs.Calls.{Size};
 ghost use Rattle.blocks.specs.Coefficients.{coefficients, values};
 
 // The coefficients of a block of dimension 1.

@@ -6,7 +6,7 @@ ghost use Prim.Native.Nat.{_^_, _≤_, _<_};
 ghost use lib.ListN.{length};
 ghost use Rattle.blocks.specs.Four.{writing, reading};
 ghost use Rattle.blocks.specs.Axes.{along, forward, backward};
-ghost use Rattle.blocks.specs.Square.{flat, eachRow, columnOf, transposed};
+ghost use Rattle.blocks.specs.Calls.{flat, eachRow, columnOf, transposed};
 
 fn write_rows(size: u32, b: [[u64; 4]; 4], exact: bool) -> [[u64; 4]; 4]
     requires { ⌜ (1 ≤ size) × (size ≤ 64) ⌝ }

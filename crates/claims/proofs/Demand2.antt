@@ -3,16 +3,16 @@ use mathlib.Core.Path.{_≡_, refl, sym, ap, _∙_}
 use mathlib.Core.Logic.{_↔_}
 use mathlib.Core.Bool.{Bool, true, false, cond}
 use mathlib.Core.List.{List, [], _∷_, _++_, append-nil}
-use Prim.Native.Nat.{ℕ, _+_, _-_, _*_, _≤_}
+use Prim.Native.Nat.{ℕ, _+_, _-_, _*_, _^_, _≤_}
 use native.Mathlib.Omega.{arith}
 use borrow.Author.Tests.{eq-eqb, ltb-false}
 use lib.ListN.{length, length-append, length-replicate, replicate}
 use lib.Seq.{slice, slice-empty}
+use Rattle.words.specs.Word.{AllBelow}
 use Rattle.bits.specs.Stream.{bitsOf, sameBits}
 use Rattle.bits.proofs.StreamLaws.{length-bitsOf}
 use Rattle.bits.proofs.SameLaws.{same-refl}
 use Rattle.bits.proofs.WriteLaws.{slice-write}
-use Rattle.blocks.proofs.Lists.{Words}
 use Rattle.params.specs.declared.Params.{Params}
 use Rattle.codec.specs.Code.{padded}
 use Rattle.params.specs.Width.{exact, wordCount, widthOf}
@@ -52,7 +52,7 @@ module _ (p : Params) (archive : List ℕ) (k : ℕ) (ws : List ℕ) (done : sto
       ∙ ap (λ (n : ℕ). padded w code ++ slice n (at + w) (bitsOf archive)) end ∙ ap (λ (l : List Bool). padded w code ++ l) (slice-empty (at + w) (bitsOf archive)) ∙ append-nil (padded w code))
 
   -- demand 2: what an exact store did, a read with the same parameters returns, bit for bit, into any buffer of N words
-  pub exact-comes-back : (after : List ℕ) (before : List ℕ) → exact p ≡ true → Words 32 ws → length before ≡ length ws
+  pub exact-comes-back : (after : List ℕ) (before : List ℕ) → exact p ≡ true → AllBelow (2 ^ 32) ws → length before ≡ length ws
       → length after ≡ length archive → bitsOf after ≡ storeOutcome p archive k ws .bits
       → (readOutcome p (length after) k (slotOf p after k) before .answer ≡ 0)
       × (readOutcome p (length after) k (slotOf p after k) before .count ≡ wordCount p)

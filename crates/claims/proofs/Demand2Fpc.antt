@@ -8,7 +8,7 @@ use Prim.Native.Nat.{ℕ, _^_, _≤_}
 use native.Mathlib.Omega.{arith}
 use lib.Dec.{ltb}
 use lib.ListN.{length, take, drop, replicate}
-use Rattle.fpc_stream.specs.Predictors.{AllBelow}
+use Rattle.words.specs.Word.{AllBelow}
 use Rattle.fpc_stream.specs.Stream.{stream}
 use Rattle.fpc_stream.specs.Reading.{read, mostDoubles, IsStream}
 use Rattle.fpc_stream.specs.Outcome.{Outcome, goodTables, mostBytes, unchanged, zeroed, done, delivered, fpcWriteOutcome, readInto, fpcReadOutcome}

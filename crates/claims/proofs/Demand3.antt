@@ -2,18 +2,18 @@
 use mathlib.Core.Path.{_≡_, refl, _∙_}
 use mathlib.Core.Bool.{Bool, true, false, _&&_, cond}
 use mathlib.Core.List.{List}
-use Prim.Native.Nat.{ℕ, _+_, _-_, _*_, _≤_, _<_}
+use Prim.Native.Nat.{ℕ, _+_, _-_, _*_, _^_, _≤_, _<_}
 use native.Mathlib.Nat.{le-trans}
 use native.Mathlib.Omega.{arith}
 use borrow.Author.Tests.{le-ltb, lt-ltb}
 use lib.Dec.{ltb}
 use lib.Ieee.{binary32}
 use lib.ListN.{length}
+use Rattle.words.specs.Word.{AllBelow}
 use Rattle.bits.specs.Stream.{bitsOf, write}
 use Rattle.planes.specs.Coder.{planesCode}
 use Rattle.planes.proofs.Bound.{bound}
 use Rattle.planes.proofs.Tight.{tight}
-use Rattle.planes.proofs.Words.{Below}
 use Rattle.codec.specs.Code.{definedCode, padded}
 use Rattle.codec.proofs.Lengths.{four-some}
 use Rattle.codec.proofs.Longest.{longest, longest-code, longest-words}
@@ -33,7 +33,7 @@ planes-bound = bound
 
 -- and some N words of w bits take exactly that, for each N from 1 and each p from 1 to w
 pub planes-bound-met : (w N p : ℕ) → 1 ≤ N → 1 ≤ p → p ≤ w
-    → (ws : List ℕ) × (length ws ≡ N) × Below w ws × (length (planesCode w p ws) ≡ N * p + N - 1)
+    → (ws : List ℕ) × (length ws ≡ N) × AllBelow (2 ^ w) ws × (length (planesCode w p ws) ≡ N * p + N - 1)
 planes-bound-met = tight
 
 -- ---- slots

@@ -6,16 +6,16 @@ use Prim.Native.Nat.{ℕ, _+_, _-_, _*_, _/_, _^_, _≤_}
 use native.Mathlib.Omega.{arith}
 use lib.ListN.{length}
 use lib.Seq.{slice}
+use Rattle.words.specs.Word.{AllBelow}
 use Rattle.bits.specs.declared.Cursor.{Cursor}
-use Rattle.bits.specs.Stream.{Written}
+use Rattle.bits.specs.Calls.{Written}
 use Rattle.bits.proofs.WriteLaws.{slice-write}
 use Rattle.planes.specs.Coder.{planesCode}
 use Rattle.planes.specs.Reader.{readWords}
 use Rattle.planes.proofs.Bound.{bound}
 use Rattle.planes.proofs.Back.{words-top}
-use Rattle.planes.proofs.Words.{Below}
 
-pub planes-back : {d d₁ : List Bool} {out next : Cursor} (w p end : ℕ) (ws : List ℕ) → Below w ws → p ≤ w → 1 ≤ length ws
+pub planes-back : {d d₁ : List Bool} {out next : Cursor} (w p end : ℕ) (ws : List ℕ) → AllBelow (2 ^ w) ws → p ≤ w → 1 ≤ length ws
     → length ws * p + length ws - 1 ≤ end → end ≤ length d → out .at ≡ 0 → Written d d₁ out end (planesCode w p ws) next
     → readWords w (length ws) p (slice 0 end d₁) ≡ map (λ x. x / 2 ^ (w - p) * 2 ^ (w - p)) ws
 planes-back {d} w p end ws below few some room fits start r =

@@ -6,7 +6,7 @@ use Prim.Native.Nat.{ℕ, _^_, _≤_}
 use native.Mathlib.Omega.{arith}
 use lib.ListN.{length, take, drop, length-append}
 use borrow.Author.Tests.{eq-eqb, ne-eqb}
-use Rattle.fpc_stream.specs.Predictors.{AllBelow}
+use Rattle.words.specs.Word.{AllBelow}
 use Rattle.fpc_stream.specs.Stream.{stream}
 use Rattle.fpc_stream.specs.Outcome.{Outcome, goodTables, done, fpcWriteOutcome, fpcReadOutcome}
 use Rattle.fpc_stream.proofs.Promises.{write-answers-0, write-done}

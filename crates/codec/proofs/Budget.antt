@@ -12,7 +12,8 @@ use Rattle.bits.proofs.NumberLaws.{length-numberBits}
 use Rattle.floats.specs.Pattern.{fieldBits}
 use Rattle.floats.specs.Block.{blockExponent, noMagnitude}
 use Rattle.floats.specs.Integer.{toInteger}
-use Rattle.codec.specs.Code.{lossyPlanes, lossyIntegers, lossyFloats, uncutFloats, definedCode, uncutCode}
+use Rattle.codec.specs.Code.{lossyPlanes, lossyIntegers, lossyFloats, definedCode}
+use Rattle.codec.specs.Calls.{uncutFloats, uncutCode}
 
 -- a 1 and a number of k bits in front of a code
 take-head : (k n width : ℕ) (code : List Bool) → 1 + k ≤ width

@@ -6,15 +6,14 @@ use Prim.Native.Nat.{ℕ, zero, suc, _+_, _-_, _*_, _^_, _≤_}
 use native.Mathlib.Omega.{arith}
 use lib.Ieee.{Format}
 use lib.ListN.{length, replicate, length-append, length-replicate}
+use Rattle.words.specs.Word.{AllBelow}
 use Rattle.bits.specs.Stream.{numberBits}
 use Rattle.bits.proofs.NumberLaws.{length-numberBits}
 use Rattle.planes.specs.Coder.{any}
 use Rattle.planes.proofs.Tight.{onesOf, onesOf-code, onesOf-below, ones-plane}
-use Rattle.planes.proofs.Words.{at-below}
 use Rattle.blocks.specs.Order.{order, inOrder}
 use Rattle.blocks.specs.Coefficients.{values}
 use Rattle.blocks.proofs.Whole.{words-values, length-values, coefficients-values}
-use Rattle.blocks.proofs.Lists.{Words}
 use Rattle.floats.specs.Pattern.{wordSize}
 use Rattle.codec.specs.Head.{planesNeeded, countBits, exactPlanes}
 use Rattle.codec.specs.Code.{exactIntegers}
@@ -31,7 +30,7 @@ ones-any zero h = absurd (omega arith)
 ones-any (suc N) h = refl
 
 module _ (f : Format) (d : ℕ) (test : inOrder d (order d) ≡ true) where
-  pub longest-words : (length (longest f d) ≡ 4 ^ d) × Words (wordSize f) (longest f d)
+  pub longest-words : (length (longest f d) ≡ 4 ^ d) × AllBelow (2 ^ (wordSize f)) (longest f d)
   unfolding longest
   longest-words = (length-values d test (wordSize f) true _, words-values (wordSize f) true d _)
 
@@ -44,5 +43,5 @@ module _ (f : Format) (d : ℕ) (test : inOrder d (order d) ≡ true) where
       let w = wordSize f in
       let N = 4 ^ d in
       let code = onesOf-code w N w (four-some d) (word-some f) (omega arith) in
-      rw (coefficients-values d test w (onesOf w N) (length-replicate N (2 ^ w - 1)) (at-below w (onesOf w N) (onesOf-below w N)), ones-needed, code)
+      rw (coefficients-values d test w (onesOf w N) (length-replicate N (2 ^ w - 1)) (onesOf-below w N), ones-needed, code)
       (length-append (numberBits (countBits f) (w - 1)) (replicate (N * w + N - 1) true) ∙ ap₂ {C = ℕ} (λ x y. x + y) (length-numberBits (countBits f) (w - 1)) (length-replicate (N * w + N - 1) true))

@@ -12,7 +12,7 @@ use Rattle.planes.specs.Coder.{plane, any}
 use Rattle.planes.proofs.Words.{Low, low-down, low-none}
 use Rattle.floats.specs.Pattern.{wordSize}
 use Rattle.codec.specs.Head.{leastPlanes, planesNeeded, countBits}
-use Rattle.codec.specs.Padded.{smallest}
+use Rattle.codec.specs.Calls.Padded.{smallest}
 use Rattle.codec.proofs.Needed.{needed-range, needed-low, needed-least}
 
 least-smallest : (w p : ℕ) (us : List ℕ) → smallest w (leastPlanes w p us) us ≡ true

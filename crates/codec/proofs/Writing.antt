@@ -11,7 +11,8 @@ use Rattle.floats.specs.Pattern.{wordSize, exponentField, fieldBits}
 use Rattle.floats.specs.Integer.{toInteger}
 use Rattle.floats.specs.Block.{blockExponent, anySpecial, noMagnitude, allZero, allWhole}
 use Rattle.floats.proofs.Blocks.{fields-ready, whole-none-special}
-use Rattle.codec.specs.Code.{integersCode, exactIntegers, exactFloats, uncutFloats, uncutCode}
+use Rattle.codec.specs.Code.{exactIntegers, exactFloats}
+use Rattle.codec.specs.Calls.{integersCode, uncutFloats, uncutCode}
 
 module _ (f : Format) (d p : ℕ) (ws : List ℕ) where
   pub exact-zero : allZero ws ≡ true → exactFloats f d ws ≡ false ∷ []

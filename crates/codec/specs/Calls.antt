@@ -1,8 +1,25 @@
--- What the functions of `codec` and `decode` ask of a block and of the bits that they read.
+-- What the contracts of `codec` and of the crates above it need beside document 01's definitions.
+pub mod Padded
 use mathlib.Core.Path.{_≡_}
+use mathlib.Core.Bool.{Bool, cond}
+use mathlib.Core.List.{List}
 use Prim.Native.Nat.{ℕ, _+_, _*_, _^_, _≤_, _<_}
+use lib.Ieee.{Format, ones}
+use lib.ListN.{length, getD}
 use Rattle.params.specs.Dimension.{Dimension}
-use Rattle.words.specs.Word.{Size}
+use Rattle.words.specs.Word.{flip}
+use Rattle.words.specs.Calls.{Size}
+use Rattle.planes.specs.Coder.{planesCode}
+use Rattle.blocks.specs.Coefficients.{coefficients}
+use Rattle.floats.specs.Pattern.{wordSize, exponentField}
+use Rattle.floats.specs.Calls.{formatOf}
+use Rattle.floats.specs.Integer.{toInteger, toPattern}
+use Rattle.codec.specs.declared.change.Change.{Change}
+use Rattle.codec.specs.declared.change.Change.the-variants.{ToInteger, ToPattern, Flip}
+use Rattle.codec.specs.Head.{exactPlanes}
+use Rattle.codec.specs.Code.{lossyPlanes, floatPlanes, codeBy}
+
+-- ---- blocks, and the bits that are read
 
 -- the shape of a block: words of w bits, a good dimension, N words, and at most w planes
 pub record Shape (w d p n : ℕ) : Type 0 where
@@ -16,3 +33,34 @@ pub record Range (at head end bytes : ℕ) : Type 0 where
   pub room : at + head ≤ end
   pub within : end ≤ 8 * bytes
   pub small : end < 2 ^ 32
+
+-- ---- what becomes of a word between the stages of a block's code, and what is asked of it
+
+abbrev pub changed : ℕ → Change → ℕ → ℕ
+changed w (ToInteger e) x = toInteger (formatOf w) e x
+changed w (ToPattern e) x = toPattern (formatOf w) e x
+changed w Flip x = flip (wordSize (formatOf w)) x
+
+-- a pattern is finite and its exponent field below e; e is an exponent field
+abbrev pub readyWord : ℕ → Change → ℕ → Type 0
+readyWord w (ToInteger e) x = (exponentField (formatOf w) x < e) × (exponentField (formatOf w) x < ones (formatOf w))
+readyWord w (ToPattern e) x = e ≤ ones (formatOf w)
+readyWord w Flip x = Unit {0}
+
+abbrev pub Ready : ℕ → Change → List ℕ → Type 0
+Ready w how ws = (i : ℕ) → i < length ws → readyWord w how (getD ws i 0)
+
+-- ---- the defined code with no cut: what a writer that is handed a limit writes below it
+
+-- coefficients, and integers, by mode
+abbrev pub coefficientsCode : Format → Bool → ℕ → List ℕ → List Bool
+coefficientsCode f exact p us = cond exact (exactPlanes f us) (planesCode (wordSize f) p us)
+
+abbrev pub integersCode : Format → Bool → ℕ → ℕ → List ℕ → List Bool
+integersCode f exact d p ws = coefficientsCode f exact p (coefficients (wordSize f) exact d ws)
+
+unfoldable pub uncutFloats : Format → ℕ → ℕ → List ℕ → List Bool
+uncutFloats f d p ws = floatPlanes f d p (λ code. code) ws
+
+unfoldable pub uncutCode : Format → Bool → Bool → ℕ → ℕ → List ℕ → List Bool
+uncutCode f float exact d p ws = codeBy f float exact d (uncutFloats f d p ws) (lossyPlanes f d p ws) ws

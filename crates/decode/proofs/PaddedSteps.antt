@@ -9,7 +9,8 @@ use lib.Dec.{eqb}
 use lib.Ieee.{Format}
 use lib.ListN.{length, getD, take, drop, drop-of-length-le}
 use lib.Seq.{slice, drop-cons}
-use Rattle.bits.specs.Stream.{numberOf, noOnes}
+use Rattle.bits.specs.Stream.{numberOf}
+use Rattle.bits.specs.Calls.{noOnes}
 use Rattle.bits.proofs.StreamLaws.{slice-first, slice-rest}
 use Rattle.planes.specs.Reader.{readWords}
 use Rattle.plane_reader.specs.Calls.{PlanesRead}
@@ -19,7 +20,7 @@ use Rattle.floats.specs.Integer.{toInteger, toPattern}
 use Rattle.floats.specs.Block.{blockExponent, allZero, allWhole}
 use Rattle.codec.specs.Head.{countBits}
 use Rattle.codec.specs.Read.{readCoefficients, readIntegers}
-use Rattle.codec.specs.Padded.{smallest, paddedPlanes, sameWords, multiples, others, paddedMultiples, paddedFlipped}
+use Rattle.codec.specs.Calls.Padded.{smallest, paddedPlanes, sameWords, multiples, others, paddedMultiples, paddedFlipped}
 
 -- coefficients as the code reads them: the count, the planes, and what follows
 pub coefficients-read : {us : List ℕ} {r : Bool} (f : Format) (w N p head : ℕ) (d : List Bool) (at end next whole count : ℕ)

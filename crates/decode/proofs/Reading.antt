@@ -7,11 +7,11 @@ use native.Mathlib.Omega.{arith}
 use lib.Ieee.{Format}
 use lib.ListN.{length, getD, replicate}
 use lib.Seq.{slice}
-use Rattle.bits.specs.Stream.{noOnes}
+use Rattle.bits.specs.Calls.{noOnes}
 use Rattle.words.specs.Word.{flip}
 use Rattle.plane_reader.proofs.Reading.{slice-here}
 use Rattle.floats.specs.Pattern.{wordSize}
-use Rattle.codec.specs.Padded.{paddedMultiples, paddedFlipped, paddedFloats}
+use Rattle.codec.specs.Calls.Padded.{paddedMultiples, paddedFlipped, paddedFloats}
 use Rattle.codec.specs.Read.{readIntegers, scaledBy, readExactFloats, readLossyFloats}
 
 module _ (f : Format) (dim p : ℕ) (d : List Bool) (at end : ℕ) (b : Bool) (fits : end ≤ length d) (first : b ≡ getD d at false) where

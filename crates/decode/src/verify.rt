@@ -7,12 +7,14 @@ ghost use lib.Dec.{eqb};
 ghost use lib.Ieee.{ones};
 ghost use lib.ListN.{length, getD};
 ghost use lib.Seq.{slice};
-ghost use Rattle.bits.specs.Stream.{bitsOf, noOnes};
-ghost use Rattle.words.specs.Word.{Size};
-ghost use Rattle.floats.specs.Pattern.{formatOf, exponentField};
+ghost use Rattle.bits.specs.Stream.{bitsOf};
+ghost use Rattle.bits.specs.Calls.{noOnes};
+ghost use Rattle.words.specs.Calls.{Size};
+ghost use Rattle.floats.specs.Pattern.{exponentField};
+ghost use Rattle.floats.specs.Calls.{formatOf};
 ghost use Rattle.floats.specs.Integer.{toInteger, toPattern};
 ghost use Rattle.floats.specs.Block.{blockExponent, allZero, allWhole};
-ghost use Rattle.codec.specs.Padded.{smallest, sameWords, multiples};
+ghost use Rattle.codec.specs.Calls.Padded.{smallest, sameWords, multiples};
 use plane_reader::Planes;
 
 // Whether p planes are the fewest that these coefficients of `size` bits need.

@@ -2,3 +2,4 @@
 pub mod Pattern
 pub mod Integer
 pub mod Block
+pub mod Calls

@@ -7,7 +7,7 @@ use native.Mathlib.Omega.{arith}
 use lib.Dec.{lit<}
 use lib.ListN.{length, take, drop, getD, set}
 use lib.Seq.{drop-cons, getD-drop, sets}
-use Rattle.fpc_stream.specs.Predictors.{AllBelow}
+use Rattle.words.specs.Word.{AllBelow}
 use Rattle.fpc_stream.specs.Bytes.{lowBytes, fromBytes}
 
 pub length-low : (n x : ℕ) → length (lowBytes n x) ≡ n

@@ -4,12 +4,14 @@ use mathlib.Core.Bool.{Bool, true, false, cond, _&&_, and-eq-true-iff}
 use mathlib.Core.List.{List, [], _∷_, _++_, append-assoc}
 use mathlib.Core.Logic.{_↔_}
 use mathlib.Core.Option.{Option, none, some, Option·map, map-eq-some-iff}
-use Prim.Native.Nat.{ℕ, zero, suc, _+_, _*_, _/_, _%_, _^_, _≤_, _<_}
+use Prim.Native.Nat.{ℕ, zero, suc, _+_, _*_, _/_, _%_, _^_, _≤_}
 use native.Mathlib.Omega.{arith}
 use lib.Dec.{eqb, lit<}
 use lib.ListN.{length, drop, getD}
 use borrow.Author.Tests.{eqb-true}
-use Rattle.fpc_stream.specs.Predictors.{Predictors, startPredictors, fcm, dfcm, update, AllBelow}
+use Rattle.words.specs.Word.{AllBelow}
+use Rattle.words.proofs.Below.{nil-below, cons-below}
+use Rattle.fpc_stream.specs.Predictors.{Predictors, startPredictors, fcm, dfcm, update}
 use Rattle.fpc_stream.specs.Stream.{halfAfter, remainingAfter, oddHalf, oddByte, pairBytes, oddBytes, streamFrom, stream}
 use Rattle.fpc_stream.specs.Reading.{Found, stepOf, oddEnd, andThen, readPairs, read, mostDoubles, IsStream}
 use Rattle.fpc_stream.proofs.ByteLaws.{drop-below}
@@ -32,13 +34,6 @@ record Chained {A B : Type 0} (o : Option A) (more : A → Option B) (y : B) : T
 chained : {A B : Type 0} (o : Option A) (more : A → Option B) (y : B) → andThen o more ≡ some y → Chained o more y
 chained none more y e = absurd (let z : _≡_ {A = ℕ} 0 1 = cc in omega arith)
 chained (some x) more y e = record { x = x; found = refl; then = e }
-
-cons-below : (n v : ℕ) (vs : List ℕ) → v < n → AllBelow n vs → AllBelow n (v ∷ vs)
-cons-below n v vs hv h zero = hv
-cons-below n v vs hv h (suc i) = h i
-
-nil-below : (n : ℕ) → 0 < n → AllBelow n []
-nil-below n h i = h
 
 -- the odd end is half byte 6 and one byte, 00
 odd-back : (half : ℕ) (bytes : List ℕ) → oddEnd half bytes ≡ true → (half ≡ oddHalf) × (bytes ≡ oddByte ∷ [])

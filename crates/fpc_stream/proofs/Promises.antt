@@ -10,7 +10,7 @@ use lib.Dec.{ltb}
 use lib.ListN.{length, take, drop}
 use lib.Seq.{take-at}
 use borrow.Author.Tests.{ltb-false, le-ltb}
-use Rattle.fpc_stream.specs.Predictors.{AllBelow}
+use Rattle.words.specs.Word.{AllBelow}
 use Rattle.fpc_stream.specs.Stream.{stream}
 use Rattle.fpc_stream.specs.Reading.{read, mostDoubles, IsStream}
 use Rattle.fpc_stream.specs.Outcome.{goodTables, mostBytes, unchanged, zeroed, done, delivered, fpcWriteOutcome, readInto, fpcReadOutcome}

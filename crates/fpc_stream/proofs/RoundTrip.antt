@@ -9,7 +9,8 @@ use lib.Count.{leadingZeros}
 use lib.Dec.{eqb}
 use lib.ListN.{length, drop, getD}
 use borrow.Author.Tests.{eqb-true}
-use Rattle.fpc_stream.specs.Predictors.{Predictors, startPredictors, fcm, dfcm, update, AllBelow}
+use Rattle.words.specs.Word.{AllBelow}
+use Rattle.fpc_stream.specs.Predictors.{Predictors, startPredictors, fcm, dfcm, update}
 use Rattle.fpc_stream.specs.Stream.{zeroBytes, remainingCount, residualCode, residual, halfByte, remaining, halfAfter, remainingAfter}
 use Rattle.fpc_stream.specs.Stream.{oddHalf, oddByte, pairBytes, oddBytes, streamFrom, stream}
 use Rattle.fpc_stream.specs.Reading.{stepOf, oddEnd, readPairs, read, mostDoubles}

@@ -4,8 +4,8 @@ use Prim.Native.Nat.{ℕ, zero, suc, _+_, _^_, _<_}
 use native.Mathlib.Nat.{mod-lt}
 use lib.Dec.{lit<}
 use lib.ListN.{getD, set, replicate}
-use Rattle.words.specs.Word.{plus}
-use Rattle.fpc_stream.specs.Predictors.{Predictors, startPredictors, fcm, dfcm, update, AllBelow}
+use Rattle.words.specs.Word.{plus, AllBelow}
+use Rattle.fpc_stream.specs.Predictors.{Predictors, startPredictors, fcm, dfcm, update}
 
 -- a store keeps every number below n
 set-below : (n : ℕ) (l : List ℕ) (k v : ℕ) → v < n → AllBelow n l → AllBelow n (set l k v)

@@ -11,7 +11,8 @@ use lib.Dec.{leb, eqb, lit<}
 use lib.ListN.{length, take, drop, length-append, take-append-drop}
 use lib.Seq.{take-at, drop-at}
 use borrow.Author.Tests.{le-leb, eq-eqb, leb-true, eqb-true}
-use Rattle.fpc_stream.specs.Predictors.{AllBelow, side, prediction}
+use Rattle.words.specs.Word.{AllBelow}
+use Rattle.fpc_stream.specs.Predictors.{side, prediction}
 use Rattle.fpc_stream.specs.Bytes.{fromBytes}
 use Rattle.fpc_stream.specs.Stream.{remainingCount, residualCode, residual, halfByte, remaining}
 use Rattle.fpc_stream.specs.Reading.{Found, decoded, coded, stepOf}

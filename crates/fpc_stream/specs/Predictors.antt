@@ -1,7 +1,7 @@
 -- Document 01's "FPC stream": the two predictors. Doubles are 64-bit patterns, numbers below 2 ^ 64.
 use mathlib.Core.Bool.{cond}
 use mathlib.Core.List.{List, [], _∷_}
-use Prim.Native.Nat.{ℕ, _*_, _/_, _%_, _^_, _<_}
+use Prim.Native.Nat.{ℕ, _*_, _/_, _%_, _^_}
 use lib.Bits.{bitXor}
 use lib.Dec.{ltb, eqb}
 use lib.ListN.{getD, set, replicate}
@@ -58,7 +58,3 @@ update size s v =
 abbrev pub after : ℕ → Predictors → List ℕ → Predictors
 after size s [] = s
 after size s (v ∷ vs) = after size (update size s v) vs
-
--- every number of a list is below n: bytes are below 256, doubles below 2 ^ 64
-abbrev pub AllBelow : ℕ → List ℕ → Type 0
-AllBelow n l = (i : ℕ) → getD l i 0 < n

@@ -7,10 +7,11 @@ use Prim.Native.Nat.{ℕ, zero, suc, _/_, _%_, _^_, _≤_}
 use lib.Bits.{bitXor}
 use lib.Dec.{leb, eqb}
 use lib.ListN.{length, take, drop, getD}
+use Rattle.words.specs.Word.{AllBelow}
 use Rattle.fpc_stream.specs.declared.Step.{Step}
 use Rattle.fpc_stream.specs.declared.Step.the-variants.{Double, Bad}
 use Rattle.fpc_stream.specs.Bytes.{fromBytes}
-use Rattle.fpc_stream.specs.Predictors.{Predictors, startPredictors, fcm, dfcm, prediction, update, AllBelow}
+use Rattle.fpc_stream.specs.Predictors.{Predictors, startPredictors, fcm, dfcm, prediction, update}
 use Rattle.fpc_stream.specs.Stream.{remainingCount, halfByte, oddHalf, oddByte, stream}
 
 -- what one step of reading gives: a double, and the place after its bytes

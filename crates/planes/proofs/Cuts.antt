@@ -1,7 +1,7 @@
 -- Worked cases of a scan that the budget cuts, of four places: document 01's rule for a cut scan, and for one that has come to the last place.
 use mathlib.Core.Path.{_≡_, refl}
 use mathlib.Core.Bool.{true, false}
-use mathlib.Core.List.{List, [], _∷_}
+use mathlib.Core.List.{[], _∷_}
 use Rattle.planes.specs.Reader.{cut, push, stop, readTest}
 
 -- a test answered 1, and a 0 passed: no bit is set

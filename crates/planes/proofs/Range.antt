@@ -7,9 +7,11 @@ use native.Mathlib.Omega.{arith}
 use native.Mathlib.Nat.{pow-suc, sub-zero}
 use lib.Pow.{pow-pos, pow-mono}
 use lib.ListN.{length, drop, replicate, length-replicate}
+use Rattle.words.specs.Word.{AllBelow}
+use Rattle.words.proofs.Below.{nil-below, cons-below}
 use Rattle.bits.specs.Stream.{digit}
-use Rattle.planes.specs.Reader.{readTest, readScan, readPlane, readNext, addPlane, readFrom, readWords, Room}
-use Rattle.planes.proofs.Words.{Below}
+use Rattle.planes.specs.Reader.{readTest, readScan, readPlane, readNext, addPlane, readFrom, readWords}
+use Rattle.planes.specs.Calls.{Room}
 
 -- the number of words
 pub add-length : (k : ℕ) (bs : List Bool) (ws : List ℕ) → length (addPlane k bs ws) ≡ length ws
@@ -44,9 +46,9 @@ room-add w m [] ws r = room-less w m ws r
 room-add w m (b ∷ bs) [] r = tt
 room-add w m (b ∷ bs) (x ∷ ws) r = (omega (arith, r .0, pow-suc 2 m, digit-le b m), room-add w m bs ws (r .1))
 
-room-below : (w m : ℕ) (ws : List ℕ) → Room w m ws → Below w ws
-room-below w m [] r = tt
-room-below w m (x ∷ ws) r = (omega (arith, r .0, pow-pos m), room-below w m ws (r .1))
+room-below : (w m : ℕ) (ws : List ℕ) → Room w m ws → AllBelow (2 ^ w) ws
+room-below w m [] r = nil-below (2 ^ w) (pow-pos w)
+room-below w m (x ∷ ws) r = cons-below (2 ^ w) x ws (omega (arith, r .0, pow-pos m)) (room-below w m ws (r .1))
 
 from-room : (w v p n : ℕ) (ws : List ℕ) (s : List Bool) → p ≤ v → Room w v ws → Room w (v - p) (readFrom v p n ws s)
 from-room w v zero n ws s h r = rw sub-zero r
@@ -57,7 +59,7 @@ from-room w (suc v) (suc p) n ws s h r =
     let g = readPlane (length ws) n s in
     rw (e, f) (from-room w v p (readNext (length ws) n s) (addPlane v (g .bits) ws) (g .rest) (omega arith) (room-add w v (g .bits) ws r))
 
-pub read-below : (w N p : ℕ) (s : List Bool) → p ≤ w → Below w (readWords w N p s)
+pub read-below : (w N p : ℕ) (s : List Bool) → p ≤ w → AllBelow (2 ^ w) (readWords w N p s)
 unfolding readWords
 read-below w N p s h = room-below w (w - p) (readFrom w p 0 (replicate N 0) s) (from-room w w p 0 (replicate N 0) s h (room-none w w N (omega arith)))
 

@@ -5,10 +5,10 @@ use mathlib.Core.List.{List, [], _∷_, _++_}
 use Prim.Native.Nat.{ℕ, suc, _-_, _<_}
 use native.Mathlib.Omega.{arith}
 use Rattle.bits.specs.declared.Cursor.{Cursor}
-use Rattle.bits.specs.Stream.{Written}
+use Rattle.bits.specs.Calls.{Written}
 use Rattle.bits.proofs.WriteLaws.{written-none, written-append}
 use Rattle.planes.specs.Coder.{plane, planesOf, planeCode, planeNext, codeFrom}
-use Rattle.planes.specs.Advanced.{Advanced}
+use Rattle.planes.specs.Calls.{Advanced}
 
 module _ {d : List Bool} {out : Cursor} {limit : ℕ} {code : List Bool} {to : ℕ} where
   pub advanced-none : {n′ : ℕ} → code ≡ [] → to ≡ n′ → Advanced d d out limit code to out n′

@@ -9,9 +9,10 @@ use lib.Dec.{eqb}
 use lib.Pow.{pow-pos, ones-split, high, ones-lt}
 use lib.ListN.{length, replicate, length-replicate, drop-of-length-le, replicate-append-replicate}
 use lib.Seq.{take-all}
+use Rattle.words.specs.Word.{AllBelow}
+use Rattle.words.proofs.Below.{nil-below, cons-below}
 use Rattle.bits.specs.Stream.{bit}
 use Rattle.planes.specs.Coder.{plane, planesOf, scan, scanMoves, planeCode, planeNext, codeFrom, planesCode, mostBits}
-use Rattle.planes.proofs.Words.{Below}
 
 -- N words of w bits, all ones
 abbrev pub onesOf : ℕ → ℕ → List ℕ
@@ -81,9 +82,9 @@ ones-planes : (w N p k : ℕ) → p ≤ k → k ≤ w → planesOf k p (onesOf w
 ones-planes w N zero k h hw = refl
 ones-planes w N (suc p) k h hw = rw (ones-plane w N (k - 1) (omega arith), ones-planes w N p (k - 1) (omega arith) (omega arith))
 
-pub onesOf-below : (w N : ℕ) → Below w (onesOf w N)
-onesOf-below w zero = tt
-onesOf-below w (suc N) = (ones-lt w, onesOf-below w N)
+pub onesOf-below : (w N : ℕ) → AllBelow (2 ^ w) (onesOf w N)
+onesOf-below w zero = nil-below (2 ^ w) (pow-pos w)
+onesOf-below w (suc N) = cons-below (2 ^ w) (2 ^ w - 1) (onesOf w N) (ones-lt w) (onesOf-below w N)
 
 -- the code of words of all ones
 pub onesOf-code : (w N p : ℕ) → 1 ≤ N → 1 ≤ p → p ≤ w → planesCode w p (onesOf w N) ≡ replicate (mostBits N p) true
@@ -92,6 +93,6 @@ onesOf-code w N p hN hp h = rw (ones-planes w N p w h (omega arith)) (ones-code 
 
 -- the bound is met
 pub tight : (w N p : ℕ) → 1 ≤ N → 1 ≤ p → p ≤ w
-    → (ws : List ℕ) × (length ws ≡ N) × Below w ws × (length (planesCode w p ws) ≡ mostBits N p)
+    → (ws : List ℕ) × (length ws ≡ N) × AllBelow (2 ^ w) ws × (length (planesCode w p ws) ≡ mostBits N p)
 tight w N p hN hp h =
     (onesOf w N, length-replicate N (2 ^ w - 1), onesOf-below w N, ap length (onesOf-code w N p hN hp h) ∙ length-replicate (mostBits N p) true)

@@ -2,28 +2,15 @@
 use mathlib.Core.Path.{_≡_, refl, sym, ap, ap₂, _∙_}
 use mathlib.Core.Bool.{Bool, true, false, true≢false}
 use mathlib.Core.List.{List, [], _∷_, map}
-use Prim.Native.Nat.{ℕ, zero, suc, _+_, _-_, _*_, _/_, _%_, _^_, _≤_, _<_}
+use Prim.Native.Nat.{ℕ, suc, _+_, _-_, _*_, _/_, _%_, _^_, _≤_}
 use native.Mathlib.Omega.{arith}
 use native.Mathlib.Nat.{mod-lt, mod-le, mod-one, div-add-mod', mod-eq-of-lt}
 use lib.Pow.{pow-pos, mod-pow-add, mod-mod-pow}
-use lib.ListN.{length, getD, replicate}
+use lib.ListN.{length, replicate}
+use Rattle.words.specs.Word.{AllBelow}
 use Rattle.bits.specs.Stream.{bit, digit}
 use Rattle.bits.proofs.NumberLaws.{digit-odd}
 use Rattle.planes.specs.Coder.{plane, any}
-
--- every word is below 2 ^ w
-abbrev pub Below : ℕ → List ℕ → Type 0
-Below w [] = Unit {0}
-Below w (x ∷ ws) = (x < 2 ^ w) × Below w ws
-
-pub below-at : (w : ℕ) (ws : List ℕ) → ((i : ℕ) → i < length ws → getD ws i 0 < 2 ^ w) → Below w ws
-below-at w [] h = tt
-below-at w (x ∷ ws) h = (h 0 (omega arith), below-at w ws (λ i l. h (suc i) (omega arith)))
-
-pub at-below : (w : ℕ) (ws : List ℕ) → Below w ws → (i : ℕ) → getD ws i 0 < 2 ^ w
-at-below w [] h i = pow-pos w
-at-below w (x ∷ ws) h zero = h .0
-at-below w (x ∷ ws) h (suc i) = at-below w ws (h .1) i
 
 -- no word has a one below plane j
 abbrev pub Low : ℕ → List ℕ → Type 0
@@ -78,9 +65,9 @@ top-mod j x = div-add-mod' x (2 ^ j)
 pub top-step : (m x : ℕ) → top (suc m) x + digit (bit m x) * 2 ^ m ≡ top m x
 top-step m x = omega (arith, top-plane x m, top-mod (suc m) x, top-mod m x)
 
-pub top-none : (w : ℕ) (ws : List ℕ) → Below w ws → replicate (length ws) 0 ≡ map (top w) ws
+pub top-none : (w : ℕ) (ws : List ℕ) → AllBelow (2 ^ w) ws → replicate (length ws) 0 ≡ map (top w) ws
 top-none w [] h = refl
-top-none w (x ∷ ws) h = ap₂ {C = List ℕ} (λ y l. y ∷ l) (omega (arith, top-mod w x, mod-eq-of-lt (h .0))) (top-none w ws (h .1))
+top-none w (x ∷ ws) h = ap₂ {C = List ℕ} (λ y l. y ∷ l) (omega (arith, top-mod w x, mod-eq-of-lt (h 0))) (top-none w ws (λ i. h (suc i)))
 
 pub top-low : (j : ℕ) (ws : List ℕ) → Low j ws → map (top j) ws ≡ ws
 top-low j [] l = refl

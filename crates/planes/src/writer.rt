@@ -2,9 +2,10 @@
 ghost use mathlib.Core.Path.{_≡_};
 ghost use Prim.Native.Nat.{ℕ, _+_, _-_, _*_, _^_, _≤_, _<_};
 ghost use lib.ListN.{length, getD, take, drop};
-ghost use Rattle.bits.specs.Stream.{bit, bitsOf, Written};
+ghost use Rattle.bits.specs.Stream.{bit, bitsOf};
+ghost use Rattle.bits.specs.Calls.{Written};
 ghost use Rattle.planes.specs.Coder.{plane, any, onesEnd, scan, test, scanMoves, planeCode, planeNext, planesCode};
-ghost use Rattle.planes.specs.Advanced.{Advanced};
+ghost use Rattle.planes.specs.Calls.{Advanced};
 use bits::Cursor;
 
 // Where the coder stands: in the stream, and in the plane (document 01's n).

@@ -1,6 +1,6 @@
 -- The three parts are those of `withBits`, which is a byte. Assumes nothing.
 use Rattle.bits.proofs.NumberLaws.{withBits-byte}
-use Rattle.bits.specs.Stream.{withBits}
+use Rattle.bits.specs.Calls.{withBits}
 use lib.Pow.{pow-pos, pow-mono}
 use native.Mathlib.Omega.{arith}
 use native.Mathlib.Nat.{mod-lt, lt-of-lt-of-le}

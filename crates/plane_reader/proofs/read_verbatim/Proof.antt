@@ -1,7 +1,7 @@
 -- The invariant: the first bits that are left, added from here, give what all of them give from the start. Assumes nothing.
 use borrow.Author.Needs.{needs}
 use Rattle.plane_reader.proofs.Reading.{add-none, verbatim-more, room-bit}
-use Rattle.planes.specs.Reader.{addAt, Room}
+use Rattle.planes.specs.Calls.{addAt, Room}
 use Rattle.bits.specs.Stream.{bitsOf}
 use lib.Seq.{slice}
 use lib.ListN.{length, take, drop}

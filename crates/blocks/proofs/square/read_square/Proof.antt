@@ -1,6 +1,6 @@
 -- `blocks::square::read_square` meets its contract: columns, then rows.
 use borrow.Author.Needs.{needs}
-use Rattle.blocks.specs.Square.{flat}
+use Rattle.blocks.specs.Calls.{flat}
 use Rattle.blocks.proofs.Squares.{columns-then-rows}
 use Rattle.blocks.proofs.square.read_square.Statement.{statement}
 use Rattle.blocks.proofs.square.read_square.Tie as tie

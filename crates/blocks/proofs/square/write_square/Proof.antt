@@ -1,6 +1,6 @@
 -- `blocks::square::write_square` meets its contract: rows, then columns.
 use borrow.Author.Needs.{needs}
-use Rattle.blocks.specs.Square.{flat}
+use Rattle.blocks.specs.Calls.{flat}
 use Rattle.blocks.proofs.Squares.{rows-then-columns}
 use Rattle.blocks.proofs.square.write_square.Statement.{statement}
 use Rattle.blocks.proofs.square.write_square.Tie as tie

@@ -2,7 +2,7 @@
 use Rattle.decode.proofs.PaddedSteps.{coefficients-read}
 use Rattle.bits.proofs.StreamLaws.{length-bitsOf, number-lt}
 use Rattle.bits.specs.Stream.{bitsOf}
-use Rattle.floats.specs.Pattern.{formatOf}
+use Rattle.floats.specs.Calls.{formatOf}
 use Prim.Native.Nat.{ℕ, _+_}
 use lib.ListN.{length}
 use mathlib.Core.Path.{refl, ap}

@@ -2,7 +2,8 @@
 use Rattle.decode.proofs.PaddedSteps.{flipped-read, flipped-cut}
 use Rattle.bits.specs.Stream.{bitsOf}
 use Rattle.words.specs.Word.{flip}
-use Rattle.floats.specs.Pattern.{formatOf, wordSize}
+use Rattle.floats.specs.Pattern.{wordSize}
+use Rattle.floats.specs.Calls.{formatOf}
 use lib.Seq.{slice}
 use mathlib.Core.List.{map}
 use mathlib.Core.Path.{ap, _∙_}

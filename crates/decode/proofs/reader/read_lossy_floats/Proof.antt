@@ -3,7 +3,7 @@ use Rattle.decode.proofs.Reading.{lossy-zero, lossy-some}
 use Rattle.bits.proofs.StreamLaws.{length-bitsOf}
 use Rattle.bits.specs.Stream.{bitsOf}
 use lib.ListN.{replicate}
-use Rattle.floats.specs.Pattern.{formatOf}
+use Rattle.floats.specs.Calls.{formatOf}
 use native.Mathlib.Omega.{arith}
 use Prim.Native.Nat.{ℕ}
 use mathlib.Core.Path.{sym, ap, _∙_}

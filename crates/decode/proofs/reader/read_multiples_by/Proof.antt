@@ -1,8 +1,8 @@
 -- e, then the integers, of which the words are the patterns. Assumes nothing.
 use Rattle.decode.proofs.PaddedSteps.{multiples-read, multiples-cut}
-use Rattle.codec.specs.Padded.{paddedPlanes}
+use Rattle.codec.specs.Calls.Padded.{paddedPlanes}
 use Rattle.codec.specs.Read.{readIntegers}
-use Rattle.floats.specs.Pattern.{formatOf}
+use Rattle.floats.specs.Calls.{formatOf}
 use Rattle.floats.specs.Integer.{toPattern}
 use Rattle.bits.proofs.StreamLaws.{length-bitsOf, slice-first, slice-rest, number-lt}
 use Rattle.bits.specs.Stream.{bitsOf, numberOf}

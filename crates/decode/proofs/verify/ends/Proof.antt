@@ -1,7 +1,7 @@
 -- The three questions, one after the other. Assumes nothing.
 use borrow.Author.Tests.{eq-eqb, ne-eqb}
 use native.Mathlib.Omega.{arith}
-use Rattle.codec.specs.Padded.{smallest}
+use Rattle.codec.specs.Calls.Padded.{smallest}
 use mathlib.Core.Bool.{true, false}
 use mathlib.Core.Path.{_≡_, sym, _∙_}
 use borrow.Author.Needs.{needs}

@@ -1,10 +1,10 @@
 -- The questions, one after the other. Assumes nothing.
 use Rattle.decode.proofs.PaddedSteps.{multiples-zero, multiples-not, multiples-by}
-use Rattle.codec.specs.Padded.{sameWords}
+use Rattle.codec.specs.Calls.Padded.{sameWords}
 use Rattle.floats.specs.Integer.{toInteger}
 use Rattle.floats.specs.Block.{blockExponent, allZero, allWhole}
 use Rattle.floats.proofs.Blocks.{whole-none-special, fields-ready}
-use Rattle.floats.specs.Pattern.{formatOf}
+use Rattle.floats.specs.Calls.{formatOf}
 use lib.ListN.{length, length-map}
 use Prim.Native.Nat.{ℕ}
 use borrow.Author.Tests.{eq-eqb, ne-eqb}

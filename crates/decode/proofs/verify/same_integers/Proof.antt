@@ -1,8 +1,8 @@
 -- The invariant: the words passed have these integers, so the comparison of all is that of the rest. Assumes nothing.
 use Rattle.decode.proofs.PaddedSteps.{words-next, words-differ, words-done}
-use Rattle.codec.specs.Padded.{sameWords}
+use Rattle.codec.specs.Calls.Padded.{sameWords}
 use Rattle.floats.specs.Integer.{toInteger}
-use Rattle.floats.specs.Pattern.{formatOf}
+use Rattle.floats.specs.Calls.{formatOf}
 use lib.ListN.{length, drop}
 use native.Mathlib.Omega.{arith}
 use Prim.Native.Nat.{_-_, _≤_}

@@ -7,7 +7,8 @@ use native.Mathlib.Omega.{arith}
 use borrow.Author.Needs.{needs}
 use lib.ListN.{length}
 use Rattle.bits.specs.declared.Cursor.{Cursor}
-use Rattle.bits.specs.Stream.{bitsOf, Written}
+use Rattle.bits.specs.Stream.{bitsOf}
+use Rattle.bits.specs.Calls.{Written}
 use Rattle.bits.proofs.WriteLaws.{written-none}
 use Rattle.planes.specs.Coder.{planesOf, codeFrom, planesCode}
 use Rattle.planes.proofs.Steps.{planes-more}

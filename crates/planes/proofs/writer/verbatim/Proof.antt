@@ -4,7 +4,8 @@ use Prim.Native.Nat.{_+_, _-_, _≤_}
 use native.Mathlib.Omega.{arith}
 use borrow.Author.Needs.{needs}
 use lib.ListN.{length, take}
-use Rattle.bits.specs.Stream.{bitsOf, Written}
+use Rattle.bits.specs.Stream.{bitsOf}
+use Rattle.bits.specs.Calls.{Written}
 use Rattle.bits.proofs.WriteLaws.{written-none, written-append}
 use Rattle.planes.specs.Coder.{plane}
 use Rattle.planes.proofs.Places.{plane-take}

@@ -1,0 +1,22 @@
+-- What the contracts of `bits` and of the crates above it need beside document 01's definitions.
+use mathlib.Core.Path.{_≡_}
+use mathlib.Core.Bool.{Bool, true, not, _&&_}
+use mathlib.Core.List.{List, [], _∷_}
+use Prim.Native.Nat.{ℕ, _+_, _*_, _/_, _%_, _^_}
+use lib.ListN.{length}
+use Rattle.bits.specs.declared.Cursor.{Cursor}
+use Rattle.bits.specs.Stream.{write}
+
+-- what a writer did to the stream: a code was written from the cursor's place on below the limit, and `next` stands after the uncut code
+pub record Written (before after : List Bool) (out : Cursor) (limit : ℕ) (code : List Bool) (next : Cursor) : Type 0 where
+  pub bits : after ≡ write before (out .at) limit code
+  pub moved : next .at ≡ out .at + length code
+
+-- byte b with the c bits from bit k on replaced by the lowest bits of v
+unfoldable pub withBits : ℕ → ℕ → ℕ → ℕ → ℕ
+withBits b k c v = b / 2 ^ (k + c) * 2 ^ (k + c) + v % 2 ^ c * 2 ^ k + b % 2 ^ k
+
+-- whether no bit is a one
+abbrev pub noOnes : List Bool → Bool
+noOnes [] = true
+noOnes (b ∷ bs) = not b && noOnes bs
