@@ -3,7 +3,7 @@ pub mod Lists
 pub mod Steps
 pub mod Through
 pub mod Lines
-pub mod Trips
+pub mod RoundTrip
 pub mod Tables
 pub mod Orders
 pub mod Filling

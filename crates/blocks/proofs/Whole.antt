@@ -11,7 +11,7 @@ use Rattle.blocks.specs.Order.{order, reorder, restore, inOrder, entryOf
 use Rattle.blocks.specs.Coefficients.{coefficients, values}
 use Rattle.blocks.proofs.Lists.{words-tabulate, words-map, map-back}
 use Rattle.blocks.proofs.Steps.{keeps-reading, keeps-differ}
-use Rattle.blocks.proofs.Trips.{length-forward, length-backward, words-forward, words-backward, backward-forward, forward-backward}
+use Rattle.blocks.proofs.RoundTrip.{length-forward, length-backward, words-forward, words-backward, backward-forward, forward-backward}
 use Rattle.blocks.proofs.Tables.{length-reorder, length-restore, restore-reorder, reorder-restore}
 use Rattle.blocks.proofs.Orders.{ordered}
 

@@ -5,6 +5,6 @@ pub mod Demand2
 pub mod Demand2Fpc
 pub mod Demand3
 pub mod Isolation
-pub mod PlanesBack
-pub mod RunBack
+pub mod PlanesRoundTrip
+pub mod RunRoundTrip
 pub mod Listing

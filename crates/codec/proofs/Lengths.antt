@@ -21,7 +21,7 @@ use Rattle.floats.specs.Block.{blockExponent, allZero, allWhole}
 use Rattle.codec.specs.Head.{planesNeeded, countBits, exactPlanes}
 use Rattle.codec.specs.Code.{exactIntegers, exactFloats}
 use Rattle.codec.proofs.Needed.{needed-range}
-use Rattle.codec.proofs.Trips.{word-some}
+use Rattle.codec.proofs.RoundTrip.{word-some}
 
 -- the head's count and at most N x w + N - 1 bits of planes
 planes-length : (f : Format) (us : List ℕ) → 1 ≤ length us → length (exactPlanes f us) ≤ countBits f + (length us * wordSize f + length us - 1)

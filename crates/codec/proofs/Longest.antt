@@ -18,7 +18,7 @@ use Rattle.floats.specs.Pattern.{wordSize}
 use Rattle.codec.specs.Head.{planesNeeded, countBits, exactPlanes}
 use Rattle.codec.specs.Code.{exactIntegers}
 use Rattle.codec.proofs.Needed.{needed-all}
-use Rattle.codec.proofs.Trips.{word-some}
+use Rattle.codec.proofs.RoundTrip.{word-some}
 use Rattle.codec.proofs.Lengths.{four-some}
 
 -- the block: the inverse transform of coefficients that are all ones

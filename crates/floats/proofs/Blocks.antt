@@ -14,7 +14,7 @@ use Rattle.floats.specs.Pattern.{wordSize, exponentField, special}
 use Rattle.floats.specs.Integer.{toInteger, toPattern, whole}
 use Rattle.floats.specs.Block.{every, some, largestField, blockExponent, anySpecial, allWhole}
 use Rattle.floats.proofs.Formats.{emax-pos}
-use Rattle.floats.proofs.Return.{finite-of, whole-finite, return}
+use Rattle.floats.proofs.RoundTrip.{finite-of, whole-finite, return}
 
 -- ---- one word more
 or-left : (a b : Bool) → (a || b) ≡ false → a ≡ false

@@ -2,7 +2,7 @@
 use mathlib.Core.Path.{sym, _∙_}
 use lib.Seq.{length-take-le}
 use borrow.Author.Needs.{needs}
-use Rattle.claims.proofs.RunBack.{buffer-is, passed-on, counted, comes-back}
+use Rattle.claims.proofs.RunRoundTrip.{buffer-is, passed-on, counted, comes-back}
 use Rattle.claims.proofs.streams.run_there_and_back.Statement.{statement}
 use Rattle.claims.proofs.streams.run_there_and_back.Tie as tie
 

@@ -13,7 +13,7 @@ use Rattle.bits.proofs.WriteLaws.{slice-write}
 use Rattle.planes.specs.Coder.{planesCode}
 use Rattle.planes.specs.Reader.{readWords}
 use Rattle.planes.proofs.Bound.{bound}
-use Rattle.planes.proofs.Back.{words-top}
+use Rattle.planes.proofs.RoundTrip.{words-top}
 
 pub planes-back : {d d₁ : List Bool} {out next : Cursor} (w p end : ℕ) (ws : List ℕ) → AllBelow (2 ^ w) ws → p ≤ w → 1 ≤ length ws
     → length ws * p + length ws - 1 ≤ end → end ≤ length d → out .at ≡ 0 → Written d d₁ out end (planesCode w p ws) next
