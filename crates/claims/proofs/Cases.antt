@@ -21,7 +21,7 @@ use Rattle.fpc_stream.specs.Reading.{decoded, coded, stepOf, read}
 use Rattle.fpc_stream.specs.Outcome.{goodSize, goodTables, delivered, fpcReadOutcome}
 use Rattle.bits.specs.Stream.{write}
 use Rattle.params.specs.Width.{slotsIn}
-use Rattle.slots.specs.Rules.{codeOf}
+use Rattle.slot_code.specs.Rules.{codeOf}
 use Rattle.slots.specs.Outcome.{storeOutcome}
 use mathlib.Core.List.{flatMap}
 use Rattle.lines.specs.Hex.{hexDigit, digitValue}

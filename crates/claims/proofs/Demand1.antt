@@ -14,7 +14,8 @@ use Rattle.params.specs.declared.Params.{Params}
 use Rattle.codec.specs.Code.{padded}
 use Rattle.params.specs.Width.{widthOf, slotsIn}
 use Rattle.params.specs.Rows.{first}
-use Rattle.slots.specs.Rules.{codeOf, storeRows, readRows}
+use Rattle.slot_code.specs.Rules.{codeOf}
+use Rattle.slots.specs.Rows.{storeRows, readRows}
 use Rattle.slots.specs.Outcome.{storeOutcome, readOutcome}
 
 -- demand 1: a refused store changes no bit of the archive

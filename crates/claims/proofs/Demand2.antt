@@ -17,12 +17,13 @@ use Rattle.params.specs.declared.Params.{Params}
 use Rattle.codec.specs.Code.{padded}
 use Rattle.params.specs.Width.{exact, wordCount, widthOf}
 use Rattle.params.specs.Rows.{first, placeRows}
-use Rattle.slots.specs.Rules.{codeOf, wordsOf, storeRows, readRows, row9, row10, row11}
+use Rattle.slot_code.specs.Rules.{IsBlock, codeOf, wordsOf, row9, row10, row11}
+use Rattle.slots.specs.Rows.{storeRows, readRows}
 use Rattle.slots.specs.Outcome.{storeOutcome, readOutcome, slotOf}
 use Rattle.params.proofs.RowLists.{none, first-both}
 use Rattle.params.proofs.RowLaws.{Placed, placed}
 use Rattle.slots.proofs.RowLaws.{read-first}
-use Rattle.slots.proofs.Garbage.{IsBlock, padded-returns, row11-exactly}
+use Rattle.slot_code.proofs.Garbage.{padded-returns, row11-exactly}
 
 -- a done store passed every row
 module _ (p : Params) (archive : List ℕ) (k : ℕ) (ws : List ℕ) (done : storeOutcome p archive k ws .answer ≡ 0) where

@@ -21,11 +21,11 @@ use Rattle.params.specs.declared.Params.{Params}
 use Rattle.params.specs.Dimension.{Dimension}
 use Rattle.params.specs.Width.{float, exact, wordCount, widthOf}
 use Rattle.params.specs.Rows.{first, placeRows}
-use Rattle.slots.specs.Rules.{codeOf, storeRows, row9}
+use Rattle.slot_code.specs.Rules.{IsBlock, codeOf, row9}
+use Rattle.slots.specs.Rows.{storeRows}
 use Rattle.slots.specs.Outcome.{bitOutcome, storeOutcome}
 use Rattle.slots.proofs.RowLaws.{store-first}
-use Rattle.slots.proofs.Exact.{in-order, exact-bound}
-use Rattle.slots.proofs.Garbage.{IsBlock}
+use Rattle.slot_code.proofs.Exact.{in-order, exact-bound}
 
 -- demand 3: N words coded to p planes take at most N x p + N - 1 bits, for every N from 1, every p and every word size w
 pub planes-bound : (w p : ℕ) (ws : List ℕ) → 1 ≤ length ws → length (planesCode w p ws) ≤ length ws * p + length ws - 1

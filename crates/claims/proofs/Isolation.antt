@@ -16,7 +16,8 @@ use Rattle.params.specs.declared.Params.{Params}
 use Rattle.codec.specs.Code.{padded}
 use Rattle.params.specs.Width.{widthOf}
 use Rattle.params.specs.Rows.{first}
-use Rattle.slots.specs.Rules.{codeOf, storeRows}
+use Rattle.slot_code.specs.Rules.{codeOf}
+use Rattle.slots.specs.Rows.{storeRows}
 use Rattle.slots.specs.Outcome.{storeOutcome, readOutcome, slotOf}
 
 -- "The read's answer depends on the parameters, the buffer's lengths, the slot number and that slot's W bits only": two archives of one length that agree on

@@ -1,7 +1,8 @@
 // The first row of document 01's table that applies, 0 if none does, where a row looks at a block's words: row 9, and the rows of the bit count.
 ghost use mathlib.Core.Path.{_≡_};
 ghost use Rattle.params.specs.Rows.{first};
-ghost use Rattle.slots.specs.Rules.{bitRows, row9};
+ghost use Rattle.slots.specs.Rows.{bitRows};
+ghost use Rattle.slot_code.specs.Rules.{row9};
 use params::Params;
 use params::rows::parameter_row;
 use params::rows::row;

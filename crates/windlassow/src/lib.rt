@@ -1,8 +1,8 @@
 // The calls that the static library exports: plain numbers in place of a record, a slice as pointer and length.
 ghost use mathlib.Core.Path.{_≡_};
 ghost use lib.ListN.{length};
-ghost use Rattle.bits.specs.Stream.{bitsOf};
 ghost use Rattle.slots.specs.Outcome.{countOutcome, bitOutcome, storeOutcome, readOutcome, slotOf};
+ghost use Rattle.slots.specs.Calls.{replied, stored, fetched};
 ghost use Rattle.fpc_stream.specs.Outcome.{fpcWriteOutcome, fpcReadOutcome};
 ghost use Rattle.fpc.specs.Calls.{outcome};
 ghost use Rattle.windlassow.specs.Plain.{params};
@@ -32,9 +32,9 @@ pub extern "C" fn windlassow_store(
     slot: usize,
     words: &[u32],
 ) -> slots::Reply
-    ensures { λ r. ⌜ (r .answer ≡ storeOutcome (params kind dimension mode planes width) (now (archive .entry)) slot (now (words .entry)) .answer)
-        × (r .count ≡ storeOutcome (params kind dimension mode planes width) (now (archive .entry)) slot (now (words .entry)) .count)
-        × (bitsOf (now (archive .exit)) ≡ storeOutcome (params kind dimension mode planes width) (now (archive .entry)) slot (now (words .entry)) .bits) ⌝ }
+    ensures { λ r. ⌜
+        stored r (now (archive .exit))
+        ≡ storeOutcome (params kind dimension mode planes width) (now (archive .entry)) slot (now (words .entry)) ⌝ }
 {
     let p = params_of(kind, dimension, mode, planes, width);
     slots::store(p, archive, slot, words)
@@ -52,9 +52,10 @@ pub extern "C" fn windlassow_read(
     slot: usize,
     words: &mut [u32],
 ) -> slots::Reply
-    ensures { λ r. ⌜ (r .answer ≡ readOutcome (params kind dimension mode planes width) (length (now (archive .entry))) slot (slotOf (params kind dimension mode planes width) (now (archive .entry)) slot) (now (words .entry)) .answer)
-        × (r .count ≡ readOutcome (params kind dimension mode planes width) (length (now (archive .entry))) slot (slotOf (params kind dimension mode planes width) (now (archive .entry)) slot) (now (words .entry)) .count)
-        × (now (words .exit) ≡ readOutcome (params kind dimension mode planes width) (length (now (archive .entry))) slot (slotOf (params kind dimension mode planes width) (now (archive .entry)) slot) (now (words .entry)) .words) ⌝ }
+    ensures { λ r. ⌜
+        fetched r (now (words .exit))
+        ≡ readOutcome (params kind dimension mode planes width) (length (now (archive .entry))) slot
+        (slotOf (params kind dimension mode planes width) (now (archive .entry)) slot) (now (words .entry)) ⌝ }
 {
     let p = params_of(kind, dimension, mode, planes, width);
     slots::read(p, archive, slot, words)
@@ -70,8 +71,7 @@ pub extern "C" fn windlassow_slot_count(
     width: u32,
     archive: &[u8],
 ) -> slots::Reply
-    ensures { λ r. ⌜ (r .answer ≡ countOutcome (params kind dimension mode planes width) (length (now (archive .entry))) .answer)
-        × (r .count ≡ countOutcome (params kind dimension mode planes width) (length (now (archive .entry))) .count) ⌝ }
+    ensures { λ r. ⌜ replied r ≡ countOutcome (params kind dimension mode planes width) (length (now (archive .entry))) ⌝ }
 {
     let p = params_of(kind, dimension, mode, planes, width);
     slots::slot_count(p, archive)
@@ -87,8 +87,7 @@ pub extern "C" fn windlassow_bit_count(
     width: u32,
     words: &[u32],
 ) -> slots::Reply
-    ensures { λ r. ⌜ (r .answer ≡ bitOutcome (params kind dimension mode planes width) (now (words .entry)) .answer)
-        × (r .count ≡ bitOutcome (params kind dimension mode planes width) (now (words .entry)) .count) ⌝ }
+    ensures { λ r. ⌜ replied r ≡ bitOutcome (params kind dimension mode planes width) (now (words .entry)) ⌝ }
 {
     let p = params_of(kind, dimension, mode, planes, width);
     slots::bit_count(p, words)

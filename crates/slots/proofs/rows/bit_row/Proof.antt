@@ -2,7 +2,7 @@
 use Rattle.params.proofs.RowLists.{first-some, first-zero}
 use Rattle.params.proofs.RowLaws.{good}
 use Rattle.params.specs.Rows.{parameterRows, row8}
-use Rattle.slots.specs.Rules.{row9}
+use Rattle.slot_code.specs.Rules.{row9}
 use lib.ListN.{length}
 use mathlib.Core.List.{[], _∷_}
 use mathlib.Core.Path.{_≡_, refl, sym, _∙_}

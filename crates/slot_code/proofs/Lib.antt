@@ -1,0 +1,5 @@
+-- Laws of a block's code in its slot.
+pub mod SlotLaws
+pub mod Exact
+pub mod Garbage
+pub mod Readable
