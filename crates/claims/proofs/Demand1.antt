@@ -1,55 +1,112 @@
--- Demand 1: a refused call changes nothing, and a store changes the bits of its own slot and no others.
-use mathlib.Core.Path.{_≡_, refl}
+-- Demand 1 holds.
+use mathlib.Core.Path.{_≡_, refl, ap}
 use mathlib.Core.Bool.{Bool, true, false, cond}
 use mathlib.Core.List.{List}
-use Prim.Native.Nat.{ℕ, _+_, _*_, _≤_, _<_}
+use Prim.Native.Nat.{ℕ, suc, _+_, _*_, _≤_, _<_}
+use native.Mathlib.Decide.{decLe}
 use native.Mathlib.Nat.{le-trans, mul-le-mul-right, suc-mul}
 use native.Mathlib.Omega.{arith}
 use borrow.Author.Tests.{ne-eqb}
+use lib.Arith.{lt-of-le-ne}
 use lib.Dec.{eqb}
 use lib.ListN.{length, getD}
 use Rattle.bits.specs.Stream.{bitsOf, write}
-use Rattle.bits.proofs.WriteLaws.{write-before, write-beyond}
-use Rattle.params.specs.declared.Params.{Params}
+use Rattle.bits.proofs.WriteLaws.{write-before, write-beyond, slice-write-before, slice-write-after}
 use Rattle.codec.specs.Code.{padded}
+use Rattle.params.specs.declared.Params.{Params}
 use Rattle.params.specs.Width.{widthOf, slotsIn}
-use Rattle.params.specs.Rows.{first}
+use Rattle.params.specs.Rows.{first, countRows}
 use Rattle.slot_code.specs.Rules.{codeOf}
-use Rattle.slots.specs.Rows.{storeRows, readRows}
-use Rattle.slots.specs.Outcome.{storeOutcome, readOutcome}
+use Rattle.slots.specs.Rows.{bitRows, storeRows, readRows}
+use Rattle.slots.specs.Outcome.{countOutcome, bitOutcome, storeOutcome, readOutcome, slotIn, slotOf}
+use Rattle.claims.specs.Demand1.{BitKept, Demand1}
+use Rattle.claims.proofs.Stored.{at-place}
+use Rattle.claims.proofs.FpcRefusals.{write-refusals, read-refusals}
 
--- demand 1: a refused store changes no bit of the archive
-pub refused-store : (p : Params) (archive : List ℕ) (k : ℕ) (ws : List ℕ)
-    → (storeOutcome p archive k ws .answer ≡ 0 → ⊥) → storeOutcome p archive k ws .bits ≡ bitsOf archive
-unfolding storeOutcome
-refused-store p archive k ws h = rw (ne-eqb (first (storeRows p (length archive) k ws)) 0 h)
-
--- demand 1: a refused read changes no word of the buffer
-pub refused-read : (p : Params) (size k : ℕ) (slot : List Bool) (before : List ℕ)
-    → (readOutcome p size k slot before .answer ≡ 0 → ⊥) → readOutcome p size k slot before .words ≡ before
+-- a refused read
+refused-read : (p : Params) (size k : ℕ) (slot : List Bool) (before : List ℕ) → (readOutcome p size k slot before .answer ≡ 0 → ⊥)
+    → (readOutcome p size k slot before .words ≡ before) × (readOutcome p size k slot before .count ≡ 0)
 unfolding readOutcome
-refused-read p size k slot before h = rw (ne-eqb (first (readRows p size k slot (length before))) 0 h)
+refused-read p size k slot before h = rw (ne-eqb (first (readRows p size k slot (length before))) 0 h) (refl, refl)
 
--- demand 1: whatever it answers, a store leaves every bit before its slot and every bit after it
-pub store-own-slot : (p : Params) (archive : List ℕ) (k : ℕ) (ws : List ℕ) (i : ℕ)
-    → (i < k * widthOf p → getD (storeOutcome p archive k ws .bits) i false ≡ getD (bitsOf archive) i false)
-    × (k * widthOf p + widthOf p ≤ i → getD (storeOutcome p archive k ws .bits) i false ≡ getD (bitsOf archive) i false)
-unfolding storeOutcome
-store-own-slot p archive k ws i = go (eqb (first (storeRows p (length archive) k ws)) 0)
-  where
-    go : (b : Bool)
-        → (i < k * widthOf p → getD (cond b (write (bitsOf archive) (k * widthOf p) (k * widthOf p + widthOf p) (padded (widthOf p) (codeOf p ws))) (bitsOf archive)) i false ≡ getD (bitsOf archive) i false)
-        × (k * widthOf p + widthOf p ≤ i → getD (cond b (write (bitsOf archive) (k * widthOf p) (k * widthOf p + widthOf p) (padded (widthOf p) (codeOf p ws))) (bitsOf archive)) i false ≡ getD (bitsOf archive) i false)
-    go true = (
-      (λ h. write-before (bitsOf archive) (k * widthOf p) (k * widthOf p + widthOf p) (padded (widthOf p) (codeOf p ws)) i false h),
-      (λ h. write-beyond (bitsOf archive) (k * widthOf p) (k * widthOf p + widthOf p) (padded (widthOf p) (codeOf p ws)) i false h),
-    )
-    go false = ((λ h. refl), (λ h. refl))
+-- refused counts
+refused-slot-count : (p : Params) (size : ℕ) → (countOutcome p size .answer ≡ 0 → ⊥) → countOutcome p size .count ≡ 0
+unfolding countOutcome
+refused-slot-count p size h = rw (ne-eqb (first (countRows p size)) 0 h)
 
--- demand 1: "Bits past the last slot are never changed"
-pub store-past-slots : (p : Params) (archive : List ℕ) (k : ℕ) (ws : List ℕ) (i : ℕ) → k < slotsIn p (length archive) → slotsIn p (length archive) * widthOf p ≤ i
-    → getD (storeOutcome p archive k ws .bits) i false ≡ getD (bitsOf archive) i false
-store-past-slots p archive k ws i h past = store-own-slot p archive k ws i .1 (le-trans (one-more k (slotsIn p (length archive)) (widthOf p) h) past)
-  where
-    one-more : (k n w : ℕ) → k < n → k * w + w ≤ n * w
-    one-more k n w l = let m = mul-le-mul-right w l in omega (arith, m, suc-mul k w)
+refused-bit-count : (p : Params) (ws : List ℕ) → (bitOutcome p ws .answer ≡ 0 → ⊥) → bitOutcome p ws .count ≡ 0
+unfolding bitOutcome
+refused-bit-count p ws h = rw (ne-eqb (first (bitRows p ws)) 0 h)
+
+-- so many whole slots end where the next one begins, or before
+slots-apart : (i j w : ℕ) → i < j → i * w + w ≤ j * w
+slots-apart i j w l = let m = mul-le-mul-right w l in omega (arith, m, suc-mul i w)
+
+module _ (p : Params) (archive : List ℕ) (k : ℕ) (ws : List ℕ) where
+  abbrev row : ℕ
+  row = first (storeRows p (length archive) k ws)
+
+  refused-store : (storeOutcome p archive k ws .answer ≡ 0 → ⊥)
+      → (storeOutcome p archive k ws .bits ≡ bitsOf archive)
+      × ((storeOutcome p archive k ws .answer ≡ 10 → ⊥) → storeOutcome p archive k ws .count ≡ 0)
+  unfolding storeOutcome
+  refused-store h = rw (ne-eqb row 0 h) (refl, (λ t. rw (ne-eqb row 10 t)))
+
+  abbrev at : ℕ
+  at = k * widthOf p
+
+  abbrev code : List Bool
+  code = padded (widthOf p) (codeOf p ws)
+
+  -- the archive's bits after the store, if it is done or not
+  abbrev after-store : Bool → List Bool
+  after-store b = cond b (write (bitsOf archive) at (at + widthOf p) code) (bitsOf archive)
+
+  own-slot : (i : ℕ) → (i < at → BitKept p archive k ws i) × (at + widthOf p ≤ i → BitKept p archive k ws i)
+  unfolding storeOutcome
+  own-slot i = go (eqb row 0)
+    where
+      go : (b : Bool)
+          → (i < at → getD (after-store b) i false ≡ getD (bitsOf archive) i false)
+          × (at + widthOf p ≤ i → getD (after-store b) i false ≡ getD (bitsOf archive) i false)
+      go true = (
+        (λ h. write-before (bitsOf archive) at (at + widthOf p) code i false h),
+        (λ h. write-beyond (bitsOf archive) at (at + widthOf p) code i false h),
+      )
+      go false = ((λ h. refl), (λ h. refl))
+
+  -- a slot number that is not below the slot count is refused
+  past-slots : (i : ℕ) → slotsIn p (length archive) * widthOf p ≤ i → BitKept p archive k ws i
+  past-slots i past = go (decLe (suc k) (slotsIn p (length archive)))
+    where
+      go : Dec (suc k ≤ slotsIn p (length archive)) → BitKept p archive k ws i
+      go (yes l) = own-slot i .1 (le-trans (slots-apart k (slotsIn p (length archive)) (widthOf p) l) past)
+      go (no l) = ap (λ (d : List Bool). getD d i false) (refused-store (λ e. l (at-place p archive k ws e .slot-below)) .0)
+
+  -- another slot
+  pub other-slot : (j : ℕ) → (j ≡ k → ⊥) → slotIn p (storeOutcome p archive k ws .bits) j ≡ slotOf p archive j
+  unfolding slotOf storeOutcome
+  other-slot j h = go (eqb row 0) (decLe j k)
+    where
+      go : (b : Bool) → Dec (j ≤ k) → slotIn p (after-store b) j ≡ slotIn p (bitsOf archive) j
+      go false l = refl
+      go true (yes l) =
+          slice-write-before (bitsOf archive) at (at + widthOf p) (j * widthOf p) (j * widthOf p + widthOf p) code
+          (slots-apart j k (widthOf p) (lt-of-le-ne l h))
+      go true (no l) =
+          slice-write-after (bitsOf archive) at (at + widthOf p) (j * widthOf p) (j * widthOf p + widthOf p) code
+          (omega arith) (slots-apart k j (widthOf p) (omega arith))
+
+pub demand1 : Demand1
+demand1 =
+    record {
+      refused-store = refused-store;
+      refused-read = refused-read;
+      refused-slot-count = refused-slot-count;
+      refused-bit-count = refused-bit-count;
+      write-refusals = write-refusals;
+      read-refusals = read-refusals;
+      store-own-slot = own-slot;
+      store-past-slots = past-slots;
+      other-slot = other-slot;
+    }

@@ -1,13 +1,8 @@
 // A run of doubles written to a stream and read back.
 ghost use mathlib.Core.Path.{_≡_};
-ghost use Prim.Native.Nat.{_≤_};
-ghost use lib.ListN.{length};
-ghost use Rattle.fpc_stream.specs.Outcome.{fpcWriteOutcome};
-ghost use Rattle.fpc.specs.Calls.{outcome};
-ghost use Rattle.claims.specs.Runs.{thereAndBack};
+ghost use Rattle.claims.specs.Composed.{runBack, writeThenRead};
 
-// A run is written into a lent buffer and, if the writer answers 0, read back with the same tables: the doubles return, and the answer is 0. Any other answer of
-// the writer is passed on.
+// A run is written into a lent buffer and, if the writer answers 0, read back with the same tables. Any other answer of the writer is passed on.
 pub fn run_there_and_back(
     f: &mut [u64],
     d: &mut [u64],
@@ -15,9 +10,9 @@ pub fn run_there_and_back(
     buf: &mut [u8],
     back: &mut [u64],
 ) -> fpc::Reply
-    requires { ⌜ length (now doubles) ≤ length (now back) ⌝ }
-    ensures { λ r. ⌜ outcome r (now (back .exit)) (now (f .exit)) (now (d .exit)) ≡ thereAndBack (now (f .entry)) (now (d .entry)) (now (doubles .entry)) (now (buf .entry)) (now (back .entry)) ⌝ }
-    ensures { λ _. ⌜ now (buf .exit) ≡ fpcWriteOutcome (now (f .entry)) (now (d .entry)) (now (doubles .entry)) (now (buf .entry)) .out ⌝ }
+    ensures { λ r. ⌜
+        runBack r (now (buf .exit)) (now (back .exit)) (now (f .exit)) (now (d .exit))
+        ≡ writeThenRead (now (f .entry)) (now (d .entry)) (now (doubles .entry)) (now (buf .entry)) (now (back .entry)) ⌝ }
 {
     let w = fpc::fpc_write(f, d, doubles, buf);
     if w.answer != 0 {

@@ -1,7 +1,6 @@
--- What the store wrote is what the read finds.
-use Rattle.claims.proofs.Demand2.{exact-comes-back}
-use mathlib.Core.Path.{sym, _∙_}
+-- The store's outcome, and after a done one that of the read.
 use borrow.Author.Needs.{needs}
+use Rattle.claims.proofs.Composed.{store-passed-on, read-then}
 use Rattle.claims.proofs.archives.store_and_read.Statement.{statement}
 use Rattle.claims.proofs.archives.store_and_read.Tie as tie
 
@@ -12,7 +11,11 @@ same-length : tie.Need-same-length
 same-length c = search needs
 
 returns : tie.Need-returns
-returns c = λ e l z. absurd (c .if1 .taken z)
+returns c =
+    let st = c .before .before .before .before in
+    let a = st .before .before .before .before .before .args in
+    let s = st .store in
+    store-passed-on (a .p) (a .archive .now) (s .last .1 .0) (a .slot) (a .words .now) (s .result) (s .ensures) (c .if1 .taken) (a .back .now)
 
 read-requires : tie.Need-read-requires
 read-requires c κs = search needs
@@ -25,11 +28,14 @@ same-length-3 c = search needs
 
 returns-2 : tie.Need-returns-2
 returns-2 c =
-    let st = c .before .before .before .before .before .before .before .before .before in
-    let s = c .before .before .before .before .before .before .before .before .before .before .before .before .before .before in
-    λ e l z. c .before .before .read .ensures .2
-    ∙ exact-comes-back (s .args .p) (s .args .archive .now) (s .args .slot) (s .args .words .now) (sym (st .store .ensures .0) ∙ c .before .before .before .before .before .if1 .left)
-    (st .store .last .1 .0) (s .args .back .now) e (λ i. c .before .before .before .before .before .before .before .before .before .before .before .before .shared-slice-known .given i .fits) l (st .store .kept .1 .0) (st .store .ensures .2) .2
+    let got = c .before .before in
+    let fine = got .before .before .before in
+    let st = fine .before .before .before .before in
+    let a = st .before .before .before .before .before .args in
+    let s = st .store in
+    let r = got .read in
+    read-then (a .p) (a .archive .now) (s .last .1 .0) (a .slot) (a .words .now) (s .result) (s .ensures)
+    (a .back .now) (r .last .1 .1 .1 .0) (r .result) (s .kept .1 .0) (r .ensures) (fine .if1 .left)
 
 pub store-and-read-spec : {M : Type 1} → statement M
 store-and-read-spec =

@@ -1,6 +1,6 @@
--- The other slot's bits stay, and a read depends on nothing else of the archive.
-use Rattle.claims.proofs.Isolation.{other-slot}
+-- The read's outcome on the bits that the store left.
 use borrow.Author.Needs.{needs}
+use Rattle.claims.proofs.Composed.{read-after}
 use Rattle.claims.proofs.archives.store_and_read_other.Statement.{statement}
 use Rattle.claims.proofs.archives.store_and_read_other.Tie as tie
 
@@ -18,9 +18,13 @@ same-length-2 c = search needs
 
 returns : tie.Need-returns
 returns c =
-    let st = c .before .before .before .before .before .before .before in
-    let s = c .before .before .before .before .before .before .before .before .before .before .before .before in
-    λ h. rw (← (other-slot (s .args .p) (s .args .archive .now) (st .store .last .1 .0) (s .args .k) (s .args .j) (s .args .words .now) h (st .store .ensures .2)), ← (st .store .kept .1 .0)) (c .before .before .read .ensures)
+    let got = c .before .before in
+    let st = got .before .before .before .before .before in
+    let a = st .before .before .before .before .before .args in
+    let s = st .store in
+    let r = got .read in
+    read-after (a .p) (a .archive .now) (s .last .1 .0) (a .k) (a .words .now) (s .result) (s .ensures)
+    (a .j) (a .back .now) (r .last .1 .1 .1 .0) (r .result) (s .kept .1 .0) (r .ensures)
 
 pub store-and-read-other-spec : {M : Type 1} → statement M
 store-and-read-other-spec =

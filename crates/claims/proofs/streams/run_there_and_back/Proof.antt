@@ -1,8 +1,8 @@
--- `claims::run_there_and_back` meets its contract: the writer's contract gives the stream, and the reader's the doubles of it.
-use mathlib.Core.Path.{sym, _∙_}
+-- The writer's outcome, and after a done one that of the reader.
+use mathlib.Core.Path.{sym}
 use lib.Seq.{length-take-le}
 use borrow.Author.Needs.{needs}
-use Rattle.claims.proofs.RunRoundTrip.{buffer-is, passed-on, counted, comes-back}
+use Rattle.claims.proofs.Composed.{run-passed-on, counted, run-read}
 use Rattle.claims.proofs.streams.run_there_and_back.Statement.{statement}
 use Rattle.claims.proofs.streams.run_there_and_back.Tie as tie
 
@@ -20,19 +20,22 @@ same-length-3 c = search needs
 
 returns : tie.Need-returns
 returns c =
-    let w = c .before .before .before .before .before .before .before .before in
-    let a = w .before .before .before .before .before .before .before .before .before .args in
-    (passed-on (a .f .now) (a .d .now) (a .doubles .now) (a .buf .now) (w .fpc-write .result) (w .fpc-write .last .1 .1 .1 .0) (w .fpc-write .last .0) (w .fpc-write .last .1 .0) (w .fpc-write .ensures) (c .if1 .taken) (a .back .now), buffer-is (a .f .now) (a .d .now) (a .doubles .now) (a .buf .now) (w .fpc-write .result) (w .fpc-write .last .1 .1 .1 .0) (w .fpc-write .last .0) (w .fpc-write .last .1 .0) (w .fpc-write .ensures))
+    let wrote = c .before .before .before .before .before .before .before .before in
+    let a = wrote .before .before .before .before .before .before .before .before .before .args in
+    let w = wrote .fpc-write in
+    run-passed-on (a .f .now) (a .d .now) (a .doubles .now) (a .buf .now) (w .result) (w .last .1 .1 .1 .0) (w .last .0) (w .last .1 .0) (w .ensures)
+    (c .if1 .taken) (a .back .now)
 
 cast-n : tie.Need-cast-n
 cast-n c = search needs
 
 slice-reshare-prefix-fpc-read : tie.Need-slice-reshare-prefix-fpc-read
 slice-reshare-prefix-fpc-read c =
-    let t = c .before .before .before in
-    let w = t .before .before .before .before .before .before .before .before in
-    let a = w .before .before .before .before .before .before .before .before .before .args in
-    counted (a .f .now) (a .d .now) (a .doubles .now) (a .buf .now) (w .fpc-write .result) (w .fpc-write .last .1 .1 .1 .0) (w .fpc-write .last .0) (w .fpc-write .last .1 .0) (w .fpc-write .ensures) (t .if1 .left)
+    let fine = c .before .before .before in
+    let wrote = fine .before .before .before .before .before .before .before .before in
+    let a = wrote .before .before .before .before .before .before .before .before .before .args in
+    let w = wrote .fpc-write in
+    counted (a .f .now) (a .d .now) (a .doubles .now) (a .buf .now) (w .result) (w .last .1 .1 .1 .0) (w .last .0) (w .last .1 .0) (w .ensures) (fine .if1 .left)
 
 slice-aggregate-fpc-read : tie.Need-slice-aggregate-fpc-read
 slice-aggregate-fpc-read c = sym (length-take-le _ _ (slice-reshare-prefix-fpc-read (c .before)))
@@ -54,17 +57,14 @@ same-length-7 c = search needs
 
 returns-2 : tie.Need-returns-2
 returns-2 c =
-    let r = c .before .before .before .before .before .before in
-    let t = r .before .before .before .before .before .before in
-    let w = t .before .before .before .before .before .before .before .before in
-    let k = w .before .before .before .before .before .before in
-    let s = k .before .before .before in
-    let a = s .args in (
-      r .fpc-read .ensures
-          ∙ comes-back (a .f .now) (a .d .now) (a .doubles .now) (a .buf .now) (w .fpc-write .result) (w .fpc-write .last .1 .1 .1 .0) (w .fpc-write .last .0) (w .fpc-write .last .1 .0) (w .fpc-write .ensures) (t .if1 .left)
-          (w .fpc-write .kept .0) (w .fpc-write .kept .1 .0) (λ i. k .shared-slice-known .given i .fits) (a .back .now) (s .pre),
-      buffer-is (a .f .now) (a .d .now) (a .doubles .now) (a .buf .now) (w .fpc-write .result) (w .fpc-write .last .1 .1 .1 .0) (w .fpc-write .last .0) (w .fpc-write .last .1 .0) (w .fpc-write .ensures),
-    )
+    let got = c .before .before .before .before .before .before in
+    let fine = got .before .before .before .before .before .before in
+    let wrote = fine .before .before .before .before .before .before .before .before in
+    let a = wrote .before .before .before .before .before .before .before .before .before .args in
+    let w = wrote .fpc-write in
+    let r = got .fpc-read in
+    run-read (a .f .now) (a .d .now) (a .doubles .now) (a .buf .now) (w .result) (w .last .1 .1 .1 .0) (w .last .0) (w .last .1 .0) (w .ensures) (fine .if1 .left)
+    (r .result) (a .back .now) (r .last .1 .1 .1 .0) (r .last .0) (r .last .1 .0) (r .ensures)
 
 pub run-there-and-back-spec : {M : Type 1} → statement M
 run-there-and-back-spec =

@@ -1,57 +1,17 @@
--- FPC runs: demand 2's return of the same bits, and demand 1's refusals, over the outcomes that the contracts of the two calls cite.
+-- What a refused FPC call leaves.
 use mathlib.Core.Path.{_≡_, refl, sym}
 use mathlib.Core.Bool.{Bool, true, false, not, cond}
-use mathlib.Core.List.{List, _++_}
-use mathlib.Core.Logic.{_↔_}
+use mathlib.Core.List.{List}
 use mathlib.Core.Option.{Option, none, some}
-use Prim.Native.Nat.{ℕ, _^_, _≤_}
+use Prim.Native.Nat.{ℕ}
 use native.Mathlib.Omega.{arith}
 use lib.Dec.{ltb}
-use lib.ListN.{length, take, drop, replicate}
-use Rattle.words.specs.Word.{AllBelow}
+use lib.ListN.{length}
 use Rattle.fpc_stream.specs.Stream.{stream}
-use Rattle.fpc_stream.specs.Reading.{read, mostDoubles, IsStream}
-use Rattle.fpc_stream.specs.Outcome.{Outcome, goodTables, mostBytes, unchanged, zeroed, done, delivered, fpcWriteOutcome, readInto, fpcReadOutcome}
-use Rattle.fpc_stream.proofs.RoundTrip.{stream-injective}
+use Rattle.fpc_stream.specs.Reading.{read, mostDoubles}
+use Rattle.fpc_stream.specs.Outcome.{goodTables, mostBytes, unchanged, zeroed, done, delivered, fpcWriteOutcome, readInto, fpcReadOutcome}
 use Rattle.fpc_stream.proofs.Rows.{good-tables}
-use Rattle.fpc_stream.proofs.Promises.{written-is-read, answer-23}
-
--- demand 2: whenever the writer answers 0, the reader, lent tables of the same size and room, answers 0, gives the same doubles back bit for bit, and leaves the tables as the writer left them
-pub run-comes-back : (f d f′ d′ vs out doubles : List ℕ) → fpcWriteOutcome f d vs out .answer ≡ 0 → goodTables f′ d′ ≡ true → length f′ ≡ length f
-    → AllBelow (2 ^ 64) vs → length vs ≤ length doubles
-    → fpcReadOutcome f′ d′ (take (fpcWriteOutcome f d vs out .count) (fpcWriteOutcome f d vs out .out)) doubles
-    ≡ record { answer = 0; count = length vs; out = vs ++ drop (length vs) doubles; f = fpcWriteOutcome f d vs out .f; d = fpcWriteOutcome f d vs out .d }
-run-comes-back = written-is-read
-
--- demand 2: two runs with one stream are equal
-pub one-run-a-stream : (size : ℕ) (vs ws : List ℕ) → AllBelow (2 ^ 64) vs → AllBelow (2 ^ 64) ws → stream size vs ≡ stream size ws → vs ≡ ws
-one-run-a-stream = stream-injective
-
--- demand 1, row 23: tables and input are good, and the bytes are "not the stream, for these tables' size, of any run of at most 4,096 doubles"
-pub answered-23 : (f d bytes doubles : List ℕ) → AllBelow 256 bytes
-    → (fpcReadOutcome f d bytes doubles .answer ≡ 23)
-    ↔ ((goodTables f d ≡ true) × (length bytes ≤ mostBytes) × ((vs : List ℕ) → IsStream (length f) bytes vs → ⊥))
-answered-23 = answer-23
-
--- nothing is changed, and the count is 0
-pub record Untouched (o : Outcome) (out f d : List ℕ) : Type 0 where
-  pub count-0 : o .count ≡ 0
-  pub same-out : o .out ≡ out
-  pub same-f : o .f ≡ f
-  pub same-d : o .d ≡ d
-
--- the output is unchanged, and both tables are zero
-pub record Cleared (o : Outcome) (out f d : List ℕ) : Type 0 where
-  pub same-out : o .out ≡ out
-  pub zero-f : o .f ≡ replicate (length f) 0
-  pub zero-d : o .d ≡ replicate (length d) 0
-
--- "20 and 21 change none. 22 and 23 leave the output unchanged and both tables zero"
-pub record Refusals (o : Outcome) (out f d : List ℕ) : Type 0 where
-  pub after-20 : o .answer ≡ 20 → Untouched o out f d
-  pub after-21 : o .answer ≡ 21 → Untouched o out f d
-  pub after-22 : o .answer ≡ 22 → Cleared o out f d
-  pub after-23 : o .answer ≡ 23 → Cleared o out f d
+use Rattle.claims.specs.Demand1.{Refusals}
 
 module _ (out f d : List ℕ) where
   refused-20 : Refusals (unchanged 20 out f d) out f d
