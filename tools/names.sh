@@ -59,9 +59,28 @@ place_of() {
     */*) whole_file "crates/${1%%/*}/must-fail/${1#*/}.edit" ;;
     *.*.*)
         first=${1%%.*} rest=${1#*.}
-        file=${rest%%.*} name=${rest#*.}
+        file=${rest%.*} name=${rest##*.}
+        file=${file//.//}
         first_in declared_line "$name" "crates/$first/specs/$file.antt" "crates/$first/proofs/$file.antt"
         ;;
     *) return 1 ;;
+    esac
+}
+
+# column_of NAME: the cell of a row in which a name of docs/TRACE.md belongs, 2 to 5: a definition of document 01; a contract, a law, a statement of
+# `claims` or what contracts need beside the definitions; a must-fail edit; a test. Fails if the name is not there.
+column_of() {
+    local place
+    place=$(place_of "$1") || return 1
+    case $1 in
+    samples/* | crates/* | *:*:*) case $1 in *::*) echo 3 ;; *) echo 5 ;; esac ;;
+    */*) echo 4 ;;
+    *)
+        case $place in
+        crates/claims/* | crates/*/specs/Calls.antt:* | crates/*/specs/Calls/*) echo 3 ;;
+        crates/*/specs/*) echo 2 ;;
+        *) echo 3 ;;
+        esac
+        ;;
     esac
 }

@@ -1,7 +1,11 @@
 -- The table of cases holds: the definitions compute to what document 01 states.
-use mathlib.Core.Path.{refl}
+use mathlib.Core.Path.{_≡_, refl, sym, ap, _∙_}
+use mathlib.Core.List.{[], _∷_, flatMap}
+use mathlib.Core.Option.{none}
 use Prim.Native.Nat.{ℕ, suc}
 use native.Mathlib.Nat.{zero-mod}
+use native.Mathlib.Omega.{arith}
+use lib.ListN.{length}
 use lib.Count.{leadingZeros}
 use lib.Ieee.{ofBits, toBits, round}
 use Rattle.words.specs.Word.{plus, minus, half, nega, unnega, flip}
@@ -18,26 +22,74 @@ use Rattle.codec.specs.Read.{readIntegers, readLossyFloats, readExactFloats, re
 use Rattle.fpc_stream.specs.Predictors.{side, fcmHash, dfcmHash}
 use Rattle.fpc_stream.specs.Stream.{zeroBytes, residual, residualCode, halfByte, remaining, pairBytes, oddBytes, stream}
 use Rattle.fpc_stream.specs.Reading.{decoded, coded, stepOf, read}
-use Rattle.fpc_stream.specs.Outcome.{goodSize, goodTables, delivered, fpcReadOutcome}
+use Rattle.fpc_stream.specs.Outcome.{delivered, readInto}
+use Rattle.fpc_stream.proofs.Rows.{good-tables, read-later}
 use Rattle.bits.specs.Stream.{write}
 use Rattle.params.specs.Width.{slotsIn}
-use Rattle.slot_code.specs.Rules.{codeOf}
-use Rattle.slots.specs.Outcome.{storeOutcome}
-use mathlib.Core.List.{flatMap}
+use Rattle.slot_code.specs.Rules.{codeOf, wordsOf}
+use Rattle.slots.specs.Outcome.{countOutcome, storeOutcome, readOutcome, slotOf}
 use Rattle.lines.specs.Hex.{hexDigit, digitValue}
 use Rattle.lines.specs.Line.{wellFormed, parametersOf, firstAnswer, answerLine, slotBytes, storedLine, blockLine}
-use Rattle.claims.specs.Table.{Table}
+use Rattle.claims.specs.Table.{P12, Paper, Ours, Table}
 
 -- everything that the cases compute with
 unfoldable computed : ℕ
 unfolding plus minus half twiceLess nega unnega flip planeCode planeNext planesCode readPlane readNext readWords lift unlift differ undiffer along reorder restore coefficients values
     toInteger toPattern signed scaled whole ofBits toBits round planesNeeded exactPlanes lossyIntegers lossyFloats exactIntegers exactFloats definedCode
-    readIntegers readExactFloats readLossyFloats readCode slotsIn codeOf write storeOutcome
+    readIntegers readExactFloats readLossyFloats readCode slotsIn codeOf wordsOf write countOutcome storeOutcome readOutcome slotOf
     leadingZeros side fcmHash dfcmHash zeroBytes residual residualCode halfByte remaining pairBytes oddBytes stream decoded coded stepOf read
-    goodSize goodTables delivered fpcReadOutcome
+    delivered
     flatMap hexDigit digitValue wellFormed parametersOf firstAnswer answerLine slotBytes storedLine blockLine
 computed = 0
 
-pub cases : Table
+-- the first step of 66 00 00 gives no double, for tables of every size from 1
+no-run : (n : ℕ) → read (suc n) (0x66 ∷ 0x00 ∷ 0x00 ∷ []) ≡ none
 unfolding computed
-cases = (refl, (refl, refl), refl, (refl, refl, refl), refl, (refl, refl), refl, (refl, refl), λ b. (refl, refl), (refl, refl), refl, refl, λ n. (refl, rw (zero-mod (suc n)), refl), (λ n. refl, refl), λ room. refl, refl, refl, refl, refl, refl, refl, (refl, refl, refl))
+no-run n = refl
+
+p12 : P12
+p12 [] d room good = absurd (omega (arith, good-tables [] d good .some-place))
+p12 (x ∷ f) d room good =
+    sym (read-later (x ∷ f) d good (0x66 ∷ 0x00 ∷ 0x00 ∷ []) room (omega arith)) ∙ ap (readInto (suc (length f)) room) (no-run (length f))
+
+paper : Paper
+unfolding computed
+paper = (
+  refl,
+  (refl, refl),
+  refl,
+  (refl, refl, refl),
+  refl,
+  (refl, refl),
+  refl,
+  (refl, refl),
+  (λ b. (refl, refl)),
+  (λ n. (refl, rw (zero-mod (suc n)), refl)),
+  ((λ n. refl), refl),
+  p12,
+)
+
+ours : Ours
+unfolding computed
+ours = (
+  (refl, refl),
+  refl,
+  (refl, refl),
+  (refl, refl),
+  refl,
+  (refl, refl),
+  refl,
+  (refl, refl),
+  refl,
+  refl,
+  refl,
+  refl,
+  refl,
+  refl,
+  refl,
+  refl,
+  (refl, refl, refl),
+)
+
+pub cases : Table
+cases = (paper, ours)

@@ -6,16 +6,18 @@ use Prim.Native.Nat.{ℕ, suc, _+_, _-_, _^_}
 use lib.Ieee.{binary32}
 use lib.ListN.{length, take, replicate}
 use Rattle.bits.specs.Stream.{bit, bitsOf}
-use Rattle.words.specs.Word.{nega, unnega}
+use Rattle.words.specs.Word.{half, nega, unnega}
 use Rattle.planes.specs.Coder.{planeCode, planeNext}
 use Rattle.planes.specs.Reader.{readWords}
+use Rattle.blocks.specs.Coefficients.{coefficients}
+use Rattle.floats.specs.Integer.{toPattern}
 use Rattle.codec.specs.Code.{definedCode}
-use Rattle.codec.specs.Read.{readCode}
-use Rattle.slots.specs.Outcome.{storeOutcome}
+use Rattle.params.specs.declared.Params.{Params}
+use Rattle.slots.specs.Outcome.{Fetched, countOutcome, storeOutcome, readOutcome, slotIn, slotOf}
 use Rattle.fpc_stream.specs.Stream.{stream}
-use Rattle.fpc_stream.specs.Outcome.{zeroed, fpcReadOutcome}
+use Rattle.fpc_stream.specs.Outcome.{goodTables, zeroed, fpcReadOutcome}
 use Rattle.frames.specs.Listing.{listing}
-use Rattle.claims.specs.Text.{text, line}
+use Rattle.claims.specs.Text.{text, textLine}
 
 -- bits as the cases write them, in digits 0 and 1
 abbrev pub bits : List ℕ → List Bool
@@ -27,6 +29,25 @@ integers ws = definedCode binary32 false true 1 32 0 ws
 
 abbrev pub floats : List ℕ → List Bool
 floats ws = definedCode binary32 true true 1 32 0 ws
+
+-- parameters of dimension 1 with P = 32 and this W
+abbrev pub exactIntegersAt : ℕ → Params
+exactIntegersAt w = record { kind = 0; dimension = 1; mode = 1; planes = 32; width = w }
+
+abbrev pub exactFloatsAt : ℕ → Params
+exactFloatsAt w = record { kind = 1; dimension = 1; mode = 1; planes = 32; width = w }
+
+abbrev pub lossyIntegersAt : ℕ → Params
+lossyIntegersAt w = record { kind = 0; dimension = 1; mode = 0; planes = 32; width = w }
+
+abbrev pub lossyFloatsAt : ℕ → Params
+lossyFloatsAt w = record { kind = 1; dimension = 1; mode = 0; planes = 32; width = w }
+
+-- what a read gives after a store into slot 0 of an archive of so many zeros; the buffer holds 9s before
+abbrev pub readBack : Params → ℕ → List ℕ → Fetched
+readBack p size ws = readOutcome p size 0 (slotIn p (storeOutcome p (replicate size 0) 0 ws .bits) 0) (replicate 4 9)
+
+-- ---- document 01's table
 
 -- P1: "integers 0 0 0 0, exact: six 0 bits"
 abbrev pub P1 : Type 0
@@ -43,9 +64,10 @@ P3 = integers (0xaaaa_aaab ∷ 0x5555_5556 ∷ 0xaaaa_aaac ∷ 0x5555_5558 ∷ [
 -- P4: "P3 at W = 136 done, at 135 answer 10", with the bits it needs, in an archive of one slot
 abbrev pub P4 : Type 0
 P4 =
-    (storeOutcome (record { kind = 0; dimension = 1; mode = 1; planes = 32; width = 136 }) (replicate 17 0) 0 (0xaaaa_aaab ∷ 0x5555_5556 ∷ 0xaaaa_aaac ∷ 0x5555_5558 ∷ []) .answer ≡ 0)
-    × (storeOutcome (record { kind = 0; dimension = 1; mode = 1; planes = 32; width = 135 }) (replicate 17 0) 0 (0xaaaa_aaab ∷ 0x5555_5556 ∷ 0xaaaa_aaac ∷ 0x5555_5558 ∷ []) .answer ≡ 10)
-    × (storeOutcome (record { kind = 0; dimension = 1; mode = 1; planes = 32; width = 135 }) (replicate 17 0) 0 (0xaaaa_aaab ∷ 0x5555_5556 ∷ 0xaaaa_aaac ∷ 0x5555_5558 ∷ []) .count ≡ 136)
+    let block : List ℕ = 0xaaaa_aaab ∷ 0x5555_5556 ∷ 0xaaaa_aaac ∷ 0x5555_5558 ∷ [] in
+    (storeOutcome (exactIntegersAt 136) (replicate 17 0) 0 block .answer ≡ 0)
+    × (storeOutcome (exactIntegersAt 135) (replicate 17 0) 0 block .answer ≡ 10)
+    × (storeOutcome (exactIntegersAt 135) (replicate 17 0) 0 block .count ≡ 136)
 
 -- P5: "four floats 1.0 (0x3F800000), exact: 21 bits, 10 00000001 01000 0 110 10"
 abbrev pub P5 : Type 0
@@ -59,7 +81,7 @@ P6 = (floats (replicate 4 0) ≡ false ∷ []) × (take 2 (floats (replicate 4 0
 
 -- P7: "lossy integers 1 0 0 0, P = 32, W = 131: reads 0 0 0 0"
 abbrev pub P7 : Type 0
-P7 = readCode binary32 false false 1 32 (definedCode binary32 false false 1 32 131 (1 ∷ 0 ∷ 0 ∷ 0 ∷ [])) ≡ 0 ∷ 0 ∷ 0 ∷ 0 ∷ []
+P7 = readBack (lossyIntegersAt 131) 17 (1 ∷ 0 ∷ 0 ∷ 0 ∷ []) ≡ record { answer = 0; count = 4; words = replicate 4 0 }
 
 -- P8: "-1, 1, 2, -2 in negabinary: 3, 1, 6, 2", and back
 abbrev pub P8 : Type 0
@@ -75,6 +97,66 @@ P9 =
     ≡ b ∷ bits (1 ∷ 0 ∷ 0 ∷ 0 ∷ 1 ∷ 1 ∷ 0 ∷ 1 ∷ 1 ∷ 1 ∷ 1 ∷ 0 ∷ 0 ∷ 1 ∷ 0 ∷ []))
     × (planeNext 1 (b ∷ bits (0 ∷ 0 ∷ 0 ∷ 1 ∷ 0 ∷ 1 ∷ 1 ∷ 0 ∷ 0 ∷ 1 ∷ 0 ∷ 0 ∷ 0 ∷ 0 ∷ 0 ∷ [])) ≡ 11)
 
+-- P10: "FPC of 0.0: 76 00; twice: 77; of nothing: nothing", for tables of every size from 1
+abbrev pub P10 : Type 0
+P10 =
+    (n : ℕ)
+    → (stream (suc n) (0 ∷ []) ≡ 0x76 ∷ 0x00 ∷ []) × (stream (suc n) (0 ∷ 0 ∷ []) ≡ 0x77 ∷ []) × (stream (suc n) [] ≡ [])
+
+-- P11: "FPC of 1.0 (0x3FF0000000000000): 06 00 00 00 00 00 00 f0 3f 00", for tables of every size from 1; "twice, tables of 16: 07 00 00 00 00 00 00 f0 3f"
+abbrev pub P11 : Type 0
+P11 =
+    ((n : ℕ)
+    → stream (suc n) (0x3ff0_0000_0000_0000 ∷ []) ≡ 0x06 ∷ 0x00 ∷ 0x00 ∷ 0x00 ∷ 0x00 ∷ 0x00 ∷ 0x00 ∷ 0xf0 ∷ 0x3f ∷ 0x00 ∷ [])
+    × (stream 16 (0x3ff0_0000_0000_0000 ∷ 0x3ff0_0000_0000_0000 ∷ []) ≡ 0x07 ∷ 0x00 ∷ 0x00 ∷ 0x00 ∷ 0x00 ∷ 0x00 ∷ 0x00 ∷ 0xf0 ∷ 0x3f ∷ [])
+
+-- P12: "FPC 66 00 00 is 23", with good tables of every size, whatever they hold and whatever room is lent
+abbrev pub P12 : Type 0
+P12 = (f d room : List ℕ) → goodTables f d ≡ true → fpcReadOutcome f d (0x66 ∷ 0x00 ∷ 0x00 ∷ []) room ≡ zeroed 23 0 (length f) room
+
+-- ---- rows of our own: slots
+
+-- "W = 0 stands for 8N": 16 bytes have four slots in dimension 1 and one in dimension 2
+abbrev pub WidthZero : Type 0
+WidthZero =
+    (countOutcome (exactIntegersAt 0) 16 ≡ record { answer = 0; count = 4 })
+    × (countOutcome (record { kind = 0; dimension = 2; mode = 1; planes = 32; width = 0 }) 16 ≡ record { answer = 0; count = 1 })
+
+-- six bits of code and eleven of padding go between two neighbours of ones, at a width that is no multiple of 8
+abbrev pub BetweenNeighbours : Type 0
+BetweenNeighbours =
+    storeOutcome (exactIntegersAt 17) (replicate 7 0xff) 1 (replicate 4 0)
+    ≡ record { answer = 0; count = 6; bits = bitsOf (0xff ∷ 0xff ∷ 0x01 ∷ 0x00 ∷ 0xfc ∷ 0xff ∷ 0xff ∷ []) }
+
+-- lossy floats 1.0 in 16 bits: a 1, e = 128, and of the planes W - 9 = 7 bits, 0 110 10 0; what is cut off is zeros, so they come back
+abbrev pub LossyFloats : Type 0
+LossyFloats =
+    (storeOutcome (lossyFloatsAt 16) (replicate 2 0) 0 (replicate 4 0x3f80_0000)
+    ≡ record { answer = 0; count = 16; bits = bits (1 ∷ 0 ∷ 0 ∷ 0 ∷ 0 ∷ 0 ∷ 0 ∷ 0 ∷ 1 ∷ 0 ∷ 1 ∷ 1 ∷ 0 ∷ 1 ∷ 0 ∷ 0 ∷ []) })
+    × (readBack (lossyFloatsAt 16) 2 (replicate 4 0x3f80_0000) ≡ record { answer = 0; count = 4; words = replicate 4 0x3f80_0000 })
+
+-- 11 for a one in the padding of P1's six bits; and for bits 1 0 with e = 0, since zeros are coded as a single 0
+abbrev pub Answers11 : Type 0
+Answers11 =
+    (readOutcome (exactIntegersAt 16) 2 0 (slotOf (exactIntegersAt 16) (0x00 ∷ 0x80 ∷ []) 0) (replicate 4 9) ≡ record { answer = 11; count = 0; words = replicate 4 9 })
+    × (readOutcome (exactFloatsAt 16) 2 0 (slotOf (exactFloatsAt 16) (0x01 ∷ 0x00 ∷ []) 0) (replicate 4 9) ≡ record { answer = 11; count = 0; words = replicate 4 9 })
+
+-- ---- rows of our own: coefficients and planes
+
+-- the block i + 2j + 3ij + 4 i(i-1)/2 + 5 j(j-1)/2 of dimension 2, whose differences are 1 to 5 at the places 1, 4, 5, 2 and 8: they come in this order
+abbrev pub OrderTold : Type 0
+OrderTold =
+    coefficients 32 true 2 (0 ∷ 1 ∷ 6 ∷ 15 ∷ 2 ∷ 6 ∷ 14 ∷ 26 ∷ 9 ∷ 16 ∷ 27 ∷ 42 ∷ 21 ∷ 31 ∷ 45 ∷ 63 ∷ [])
+    ≡ map (nega 32) (0 ∷ 1 ∷ 2 ∷ 3 ∷ 4 ∷ 5 ∷ replicate 10 0)
+
+-- halving rounds down: -1 to -1, -3 to -2
+abbrev pub NegativeHalved : Type 0
+NegativeHalved = (half 32 (2 ^ 32 - 1) ≡ 2 ^ 32 - 1) × (half 32 (2 ^ 32 - 3) ≡ 2 ^ 32 - 2)
+
+-- integers that lie midway between two floats, at e = 157, where they stand for themselves: 2^24 + 1 and 2^24 + 3 go to the even one
+abbrev pub RoundingTie : Type 0
+RoundingTie = map (toPattern binary32 157) ((2 ^ 24 + 1) ∷ (2 ^ 24 + 3) ∷ []) ≡ 0x4b80_0000 ∷ 0x4b80_0002 ∷ []
+
 -- a scan that the budget cuts before place N - 1 sets no bit: right after its test, and two places on
 abbrev pub CutScan : Type 0
 CutScan =
@@ -89,22 +171,7 @@ CutScanAtLast = readWords 32 4 1 (bits (1 ∷ 0 ∷ 0 ∷ 0 ∷ [])) ≡ 0 ∷ 0
 abbrev pub CutVerbatim : Type 0
 CutVerbatim = readWords 32 4 2 (bits (replicate 9 1)) ≡ (2 ^ 31 + 2 ^ 30) ∷ (2 ^ 31 + 2 ^ 30) ∷ 2 ^ 31 ∷ 2 ^ 31 ∷ []
 
--- P10: "FPC of 0.0: 76 00; twice: 77; of nothing: nothing", for tables of every size from 1
-abbrev pub P10 : Type 0
-P10 =
-    (n : ℕ)
-    → (stream (suc n) (0 ∷ []) ≡ 0x76 ∷ 0x00 ∷ []) × (stream (suc n) (0 ∷ 0 ∷ []) ≡ 0x77 ∷ []) × (stream (suc n) [] ≡ [])
-
--- P11: "FPC of 1.0 (0x3FF0000000000000): 06 00 00 00 00 00 00 f0 3f 00", for tables of every size from 1; "twice, tables of 16: 07 00 00 00 00 00 00 f0 3f"
-abbrev pub P11 : Type 0
-P11 =
-    ((n : ℕ)
-    → stream (suc n) (0x3ff0_0000_0000_0000 ∷ []) ≡ 0x06 ∷ 0x00 ∷ 0x00 ∷ 0x00 ∷ 0x00 ∷ 0x00 ∷ 0x00 ∷ 0xf0 ∷ 0x3f ∷ 0x00 ∷ [])
-    × (stream 16 (0x3ff0_0000_0000_0000 ∷ 0x3ff0_0000_0000_0000 ∷ []) ≡ 0x07 ∷ 0x00 ∷ 0x00 ∷ 0x00 ∷ 0x00 ∷ 0x00 ∷ 0x00 ∷ 0xf0 ∷ 0x3f ∷ [])
-
--- P12: "FPC 66 00 00 is 23", here with tables of 16, whatever room is lent
-abbrev pub P12 : Type 0
-P12 = (room : List ℕ) → fpcReadOutcome (replicate 16 0) (replicate 16 0) (0x66 ∷ 0x00 ∷ 0x00 ∷ []) room ≡ zeroed 23 0 16 room
+-- ---- rows of our own: FPC streams
 
 -- four leading zero bytes count as three
 abbrev pub FourAsThree : Type 0
@@ -128,18 +195,30 @@ HashWraps =
     stream 16 (0x4059_0000_0000_0000 ∷ 0x4059_4000_0000_0000 ∷ 0x4059_8000_0000_0000 ∷ 0x4059_c000_0000_0000 ∷ [])
     ≡ 0x00 ∷ 0x00 ∷ 0x00 ∷ 0x00 ∷ 0x00 ∷ 0x00 ∷ 0x00 ∷ 0x59 ∷ 0x40 ∷ 0x00 ∷ 0x00 ∷ 0x00 ∷ 0x00 ∷ 0x00 ∷ 0x40 ∷ 0x59 ∷ 0x40 ∷ 0xff ∷ []
 
+-- ---- rows of our own: the listing
+
 -- "In: .. Out: ..", the listing that P2 cites
 abbrev pub Listed : Type 0
 Listed =
-    listing (line "000101200030" ++ line "00000001000000010000000100000001" ++ line "aaaaaaab55555556aaaaaaac55555558")
-    ≡ line "0000271f0000003000" ++ line "0a0088"
+    listing (textLine "000101200030" ++ textLine "00000001000000010000000100000001" ++ textLine "aaaaaaab55555556aaaaaaac55555558")
+    ≡ textLine "0000271f0000003000" ++ textLine "0a0088"
 
 -- "so is empty input, as a first line"; a bad first line's one answer; "For an ill-formed line 12 comes before all other rows"
 abbrev pub ListedBad : Type 0
 ListedBad =
-    (listing [] ≡ line "0c0000")
-    × (listing (line "000301200030" ++ line "00000001000000010000000100000001") ≡ line "020000")
-    × (listing (line "010100200030" ++ line "7F800000000000000000000000000000" ++ line "7f800000000000000000000000000000" ++ text "00") ≡ line "0c0000" ++ line "090000" ++ line "0c0000")
+    (listing [] ≡ textLine "0c0000")
+    × (listing (textLine "000301200030" ++ textLine "00000001000000010000000100000001") ≡ textLine "020000")
+    × (listing (textLine "010100200030" ++ textLine "7F800000000000000000000000000000" ++ textLine "7f800000000000000000000000000000" ++ text "00") ≡ textLine "0c0000" ++ textLine "090000" ++ textLine "0c0000")
+
+-- ---- all
+
+abbrev pub Paper : Type 0
+Paper = P1 × P2 × P3 × P4 × P5 × P6 × P7 × P8 × P9 × P10 × P11 × P12
+
+abbrev pub Ours : Type 0
+Ours =
+    WidthZero × BetweenNeighbours × LossyFloats × Answers11 × OrderTold × NegativeHalved × RoundingTie × CutScan × CutScanAtLast × CutVerbatim
+    × FourAsThree × DfcmTaken × TieTakesFcm × OddThree × HashWraps × Listed × ListedBad
 
 abbrev pub Table : Type 0
-Table = P1 × P2 × P3 × P4 × P5 × P6 × P7 × P8 × P9 × CutScan × CutScanAtLast × CutVerbatim × P10 × P11 × P12 × FourAsThree × DfcmTaken × TieTakesFcm × OddThree × HashWraps × Listed × ListedBad
+Table = Paper × Ours

@@ -11,5 +11,5 @@ text [] = list.[]
 text (c ∷ s) = list._∷_ (code c) (text s)
 
 -- a line and its newline
-abbrev pub line : String → List ℕ
-line s = text s ++ list._∷_ newline list.[]
+abbrev pub textLine : String → List ℕ
+textLine s = text s ++ list._∷_ newline list.[]
