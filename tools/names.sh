@@ -68,7 +68,7 @@ place_of() {
 }
 
 # column_of NAME: the cell of a row in which a name of docs/TRACE.md belongs, 2 to 5: a definition of document 01; a contract, a law, a statement of
-# `claims` or what contracts need beside the definitions; a must-fail edit; a test. Fails if the name is not there.
+# `claims` or `compositions` or what contracts need beside the definitions; a must-fail edit; a test. Fails if the name is not there.
 column_of() {
     local place
     place=$(place_of "$1") || return 1
@@ -77,7 +77,7 @@ column_of() {
     */*) echo 4 ;;
     *)
         case $place in
-        crates/claims/* | crates/*/specs/Calls.antt:* | crates/*/specs/Calls/*) echo 3 ;;
+        crates/claims/* | crates/compositions/* | crates/*/specs/Calls.antt:* | crates/*/specs/Calls/*) echo 3 ;;
         crates/*/specs/*) echo 2 ;;
         *) echo 3 ;;
         esac

@@ -19,22 +19,21 @@ use Rattle.params.specs.Rows.{first, countRows}
 use Rattle.slot_code.specs.Rules.{codeOf}
 use Rattle.slots.specs.Rows.{bitRows, storeRows, readRows}
 use Rattle.slots.specs.Outcome.{countOutcome, bitOutcome, storeOutcome, readOutcome, slotIn, slotOf}
-use Rattle.claims.specs.Demand1.{BitKept, Demand1}
+use Rattle.claims.specs.Demand1.{BitKept, RefusedStore, RefusedRead, RefusedSlotCount, RefusedBitCount, OtherSlot, Demand1}
 use Rattle.claims.proofs.Stored.{at-place}
 use Rattle.claims.proofs.FpcRefusals.{write-refusals, read-refusals}
 
 -- a refused read
-refused-read : (p : Params) (size k : ℕ) (slot : List Bool) (before : List ℕ) → (readOutcome p size k slot before .answer ≡ 0 → ⊥)
-    → (readOutcome p size k slot before .words ≡ before) × (readOutcome p size k slot before .count ≡ 0)
+refused-read : RefusedRead
 unfolding readOutcome
 refused-read p size k slot before h = rw (ne-eqb (first (readRows p size k slot (length before))) 0 h) (refl, refl)
 
 -- refused counts
-refused-slot-count : (p : Params) (size : ℕ) → (countOutcome p size .answer ≡ 0 → ⊥) → countOutcome p size .count ≡ 0
+refused-slot-count : RefusedSlotCount
 unfolding countOutcome
 refused-slot-count p size h = rw (ne-eqb (first (countRows p size)) 0 h)
 
-refused-bit-count : (p : Params) (ws : List ℕ) → (bitOutcome p ws .answer ≡ 0 → ⊥) → bitOutcome p ws .count ≡ 0
+refused-bit-count : RefusedBitCount
 unfolding bitOutcome
 refused-bit-count p ws h = rw (ne-eqb (first (bitRows p ws)) 0 h)
 
@@ -42,15 +41,15 @@ refused-bit-count p ws h = rw (ne-eqb (first (bitRows p ws)) 0 h)
 slots-apart : (i j w : ℕ) → i < j → i * w + w ≤ j * w
 slots-apart i j w l = let m = mul-le-mul-right w l in omega (arith, m, suc-mul i w)
 
+refused-store : RefusedStore
+unfolding storeOutcome
+refused-store p archive k ws h =
+    let row = first (storeRows p (length archive) k ws) in
+    rw (ne-eqb row 0 h) (refl, (λ t. rw (ne-eqb row 10 t)))
+
 module _ (p : Params) (archive : List ℕ) (k : ℕ) (ws : List ℕ) where
   abbrev row : ℕ
   row = first (storeRows p (length archive) k ws)
-
-  refused-store : (storeOutcome p archive k ws .answer ≡ 0 → ⊥)
-      → (storeOutcome p archive k ws .bits ≡ bitsOf archive)
-      × ((storeOutcome p archive k ws .answer ≡ 10 → ⊥) → storeOutcome p archive k ws .count ≡ 0)
-  unfolding storeOutcome
-  refused-store h = rw (ne-eqb row 0 h) (refl, (λ t. rw (ne-eqb row 10 t)))
 
   abbrev at : ℕ
   at = k * widthOf p
@@ -81,32 +80,21 @@ module _ (p : Params) (archive : List ℕ) (k : ℕ) (ws : List ℕ) where
     where
       go : Dec (suc k ≤ slotsIn p (length archive)) → BitKept p archive k ws i
       go (yes l) = own-slot i .1 (le-trans (slots-apart k (slotsIn p (length archive)) (widthOf p) l) past)
-      go (no l) = ap (λ (d : List Bool). getD d i false) (refused-store (λ e. l (at-place p archive k ws e .slot-below)) .0)
+      go (no l) = ap (λ (d : List Bool). getD d i false) (refused-store p archive k ws (λ e. l (at-place p archive k ws e .slot-below)) .0)
 
-  -- another slot
-  pub other-slot : (j : ℕ) → (j ≡ k → ⊥) → slotIn p (storeOutcome p archive k ws .bits) j ≡ slotOf p archive j
-  unfolding slotOf storeOutcome
-  other-slot j h = go (eqb row 0) (decLe j k)
-    where
-      go : (b : Bool) → Dec (j ≤ k) → slotIn p (after-store b) j ≡ slotIn p (bitsOf archive) j
-      go false l = refl
-      go true (yes l) =
-          slice-write-before (bitsOf archive) at (at + widthOf p) (j * widthOf p) (j * widthOf p + widthOf p) code
-          (slots-apart j k (widthOf p) (lt-of-le-ne l h))
-      go true (no l) =
-          slice-write-after (bitsOf archive) at (at + widthOf p) (j * widthOf p) (j * widthOf p + widthOf p) code
-          (omega arith) (slots-apart k j (widthOf p) (omega arith))
+-- another slot
+pub other-slot : OtherSlot
+unfolding slotOf storeOutcome
+other-slot p archive k ws j h = go (eqb (row p archive k ws) 0) (decLe j k)
+  where
+    go : (b : Bool) → Dec (j ≤ k) → slotIn p (after-store p archive k ws b) j ≡ slotIn p (bitsOf archive) j
+    go false l = refl
+    go true (yes l) =
+        slice-write-before (bitsOf archive) (at p archive k ws) (at p archive k ws + widthOf p) (j * widthOf p) (j * widthOf p + widthOf p) (code p archive k ws)
+        (slots-apart j k (widthOf p) (lt-of-le-ne l h))
+    go true (no l) =
+        slice-write-after (bitsOf archive) (at p archive k ws) (at p archive k ws + widthOf p) (j * widthOf p) (j * widthOf p + widthOf p) (code p archive k ws)
+        (omega arith) (slots-apart k j (widthOf p) (omega arith))
 
 pub demand1 : Demand1
-demand1 =
-    record {
-      refused-store = refused-store;
-      refused-read = refused-read;
-      refused-slot-count = refused-slot-count;
-      refused-bit-count = refused-bit-count;
-      write-refusals = write-refusals;
-      read-refusals = read-refusals;
-      store-own-slot = own-slot;
-      store-past-slots = past-slots;
-      other-slot = other-slot;
-    }
+demand1 = (refused-store, refused-read, refused-slot-count, refused-bit-count, write-refusals, read-refusals, own-slot, past-slots, other-slot)

@@ -1,9 +1,8 @@
 -- Demand 3 holds.
-use mathlib.Core.Path.{_≡_, refl, _∙_}
+use mathlib.Core.Path.{_≡_, _∙_}
 use mathlib.Core.Bool.{true, false}
 use mathlib.Core.List.{List}
 use Prim.Native.Nat.{ℕ, _+_, _*_, _≤_}
-use native.Mathlib.Nat.{le-trans}
 use native.Mathlib.Omega.{arith}
 use lib.Ieee.{binary32}
 use lib.ListN.{length}
@@ -18,15 +17,25 @@ use Rattle.params.specs.Width.{float, exact, wordCount, widthOf}
 use Rattle.slot_code.specs.Rules.{IsBlock, codeOf}
 use Rattle.slot_code.proofs.Exact.{in-order, exact-bound}
 use Rattle.slots.specs.Outcome.{bitOutcome, storeOutcome}
-use Rattle.claims.specs.Demand3.{Takes, RefusesAsTooLong, Demand3}
+use Rattle.claims.specs.Demand3.{RefusesAsTooLong, PlanesBound, TakesIntegers, TakesFloats, StoreCount, BitCount, Demand3}
 use Rattle.claims.proofs.Stored.{takes-fitting, refuses-longer}
 
-module _ (p : Params) (good : Dimension (p .dimension)) (e : exact p ≡ true) where
-  takes-integers : float p ≡ false → 33 * wordCount p + 4 ≤ widthOf p → (ws : List ℕ) → Takes p ws
-  takes-integers k wide ws = takes-fitting p ws (le-trans (rw k at (exact-bound p good ws e)) wide)
+planes-bound : PlanesBound
+planes-bound w p ws some = omega (arith, bound w p ws some)
 
-  takes-floats : float p ≡ true → 33 * wordCount p + 14 ≤ widthOf p → (ws : List ℕ) → Takes p ws
-  takes-floats k wide ws = takes-fitting p ws (le-trans (rw k at (exact-bound p good ws e)) wide)
+-- how long exact codes get
+module _ (p : Params) (good : Dimension (p .dimension)) (e : exact p ≡ true) (ws : List ℕ) where
+  integers-within : float p ≡ false → length (codeOf p ws) ≤ 33 * wordCount p + 4
+  integers-within k = rw k at (exact-bound p good ws e)
+
+  floats-within : float p ≡ true → length (codeOf p ws) ≤ 33 * wordCount p + 14
+  floats-within k = rw k at (exact-bound p good ws e)
+
+takes-integers : TakesIntegers
+takes-integers p good e k wide ws = takes-fitting p ws (omega (arith, integers-within p good e ws k, wide))
+
+takes-floats : TakesFloats
+takes-floats p good e k wide ws = takes-fitting p ws (omega (arith, floats-within p good e ws k, wide))
 
 -- the longest block of a dimension
 module _ (d : ℕ) (good : Dimension d) where
@@ -44,24 +53,13 @@ module _ (d : ℕ) (good : Dimension d) where
     refuses : widthOf p ≡ 33 * wordCount p + 3 → RefusesAsTooLong p block (33 * wordCount p + 4)
     refuses wide = rw bits at (refuses-longer p block e (omega (arith, bits)))
 
-store-count : (p : Params) (archive : List ℕ) (k : ℕ) (ws : List ℕ)
-    → (storeOutcome p archive k ws .answer ≡ 0 → storeOutcome p archive k ws .count ≡ length (codeOf p ws))
-    × (storeOutcome p archive k ws .answer ≡ 10 → storeOutcome p archive k ws .count ≡ length (codeOf p ws))
+store-count : StoreCount
 unfolding storeOutcome
 store-count p archive k ws = ((λ h. rw h), (λ h. rw h))
 
-bit-count : (p : Params) (ws : List ℕ) → bitOutcome p ws .answer ≡ 0 → bitOutcome p ws .count ≡ length (codeOf p ws)
+bit-count : BitCount
 unfolding bitOutcome
 bit-count p ws h = rw h
 
 pub demand3 : Demand3
-demand3 =
-    record {
-      planes-bound = bound;
-      planes-bound-met = tight;
-      takes-integers = takes-integers;
-      takes-floats = takes-floats;
-      refuses-some = λ d good. (block d good, is-block d good, refuses d good);
-      store-count = store-count;
-      bit-count = bit-count;
-    }
+demand3 = (planes-bound, tight, takes-integers, takes-floats, (λ d good. (block d good, is-block d good, refuses d good)), store-count, bit-count)

@@ -11,7 +11,7 @@ use Rattle.fpc_stream.specs.Stream.{stream}
 use Rattle.fpc_stream.specs.Reading.{read, mostDoubles}
 use Rattle.fpc_stream.specs.Outcome.{goodTables, mostBytes, unchanged, zeroed, done, delivered, fpcWriteOutcome, readInto, fpcReadOutcome}
 use Rattle.fpc_stream.proofs.Rows.{good-tables}
-use Rattle.claims.specs.Demand1.{Refusals}
+use Rattle.claims.specs.Demand1.{Refusals, WriteRefusals, ReadRefusals}
 
 module _ (out f d : List ℕ) where
   refused-20 : Refusals (unchanged 20 out f d) out f d
@@ -66,7 +66,7 @@ module _ (out f d : List ℕ) where
         go false = record { after-20 = λ e. absurd (omega arith); after-21 = λ e. absurd (omega arith); after-22 = λ e. absurd (omega arith); after-23 = λ e. absurd (omega arith) }
 
 -- demand 1: what a refused write leaves
-pub write-refusals : (f d vs out : List ℕ) → Refusals (fpcWriteOutcome f d vs out) out f d
+pub write-refusals : WriteRefusals
 unfolding fpcWriteOutcome
 write-refusals f d vs out = go (goodTables f d) refl (ltb mostDoubles (length vs))
   where
@@ -77,7 +77,7 @@ write-refusals f d vs out = go (goodTables f d) refl (ltb mostDoubles (length vs
     go true e false = delivers out f d e vs (stream (length f) vs)
 
 -- demand 1: what a refused read leaves
-pub read-refusals : (f d bytes doubles : List ℕ) → Refusals (fpcReadOutcome f d bytes doubles) doubles f d
+pub read-refusals : ReadRefusals
 unfolding fpcReadOutcome
 read-refusals f d bytes doubles = go (goodTables f d) refl (ltb mostBytes (length bytes)) (read (length f) bytes)
   where

@@ -40,24 +40,52 @@ pub record Refusals (o : Outcome) (out f d : List ℕ) : Type 0 where
 abbrev pub BitKept : Params → List ℕ → ℕ → List ℕ → ℕ → Type 0
 BitKept p archive k ws i = getD (storeOutcome p archive k ws .bits) i false ≡ getD (bitsOf archive) i false
 
-pub record Demand1 : Type 0 where
-  -- "a refused call changes nothing": a store, which also counts 0, but for answer 10
-  pub refused-store : (p : Params) (archive : List ℕ) (k : ℕ) (ws : List ℕ) → (storeOutcome p archive k ws .answer ≡ 0 → ⊥)
-      → (storeOutcome p archive k ws .bits ≡ bitsOf archive)
-      × ((storeOutcome p archive k ws .answer ≡ 10 → ⊥) → storeOutcome p archive k ws .count ≡ 0)
-  -- a read, which also counts 0
-  pub refused-read : (p : Params) (size k : ℕ) (slot : List Bool) (before : List ℕ) → (readOutcome p size k slot before .answer ≡ 0 → ⊥)
-      → (readOutcome p size k slot before .words ≡ before) × (readOutcome p size k slot before .count ≡ 0)
-  -- the two counts, which are lent nothing to change
-  pub refused-slot-count : (p : Params) (size : ℕ) → (countOutcome p size .answer ≡ 0 → ⊥) → countOutcome p size .count ≡ 0
-  pub refused-bit-count : (p : Params) (ws : List ℕ) → (bitOutcome p ws .answer ≡ 0 → ⊥) → bitOutcome p ws .count ≡ 0
-  -- "but what document 01 lists": the FPC calls
-  pub write-refusals : (f d vs out : List ℕ) → Refusals (fpcWriteOutcome f d vs out) out f d
-  pub read-refusals : (f d bytes doubles : List ℕ) → Refusals (fpcReadOutcome f d bytes doubles) doubles f d
-  -- "A store changes the bits of its own slot and no others": whatever it answers, every bit before the slot and every bit after it is kept
-  pub store-own-slot : (p : Params) (archive : List ℕ) (k : ℕ) (ws : List ℕ) (i : ℕ)
-      → (i < k * widthOf p → BitKept p archive k ws i) × (k * widthOf p + widthOf p ≤ i → BitKept p archive k ws i)
-  -- "Bits past the last slot are never changed"
-  pub store-past-slots : (p : Params) (archive : List ℕ) (k : ℕ) (ws : List ℕ) (i : ℕ) → slotsIn p (length archive) * widthOf p ≤ i → BitKept p archive k ws i
-  -- so a store into slot k, whatever it answers, leaves the bits of every other slot
-  pub other-slot : (p : Params) (archive : List ℕ) (k : ℕ) (ws : List ℕ) (j : ℕ) → (j ≡ k → ⊥) → slotIn p (storeOutcome p archive k ws .bits) j ≡ slotOf p archive j
+-- "a refused call changes nothing": a store, which also counts 0, but for answer 10
+abbrev pub RefusedStore : Type 0
+RefusedStore =
+    (p : Params) (archive : List ℕ) (k : ℕ) (ws : List ℕ) → (storeOutcome p archive k ws .answer ≡ 0 → ⊥)
+    → (storeOutcome p archive k ws .bits ≡ bitsOf archive)
+    × ((storeOutcome p archive k ws .answer ≡ 10 → ⊥) → storeOutcome p archive k ws .count ≡ 0)
+
+-- a read, which also counts 0
+abbrev pub RefusedRead : Type 0
+RefusedRead =
+    (p : Params) (size k : ℕ) (slot : List Bool) (before : List ℕ) → (readOutcome p size k slot before .answer ≡ 0 → ⊥)
+    → (readOutcome p size k slot before .words ≡ before) × (readOutcome p size k slot before .count ≡ 0)
+
+-- the two counts, which are lent nothing to change
+abbrev pub RefusedSlotCount : Type 0
+RefusedSlotCount =
+    (p : Params) (size : ℕ) → (countOutcome p size .answer ≡ 0 → ⊥) → countOutcome p size .count ≡ 0
+
+abbrev pub RefusedBitCount : Type 0
+RefusedBitCount =
+    (p : Params) (ws : List ℕ) → (bitOutcome p ws .answer ≡ 0 → ⊥) → bitOutcome p ws .count ≡ 0
+
+-- "but what document 01 lists": the FPC calls
+abbrev pub WriteRefusals : Type 0
+WriteRefusals =
+    (f d vs out : List ℕ) → Refusals (fpcWriteOutcome f d vs out) out f d
+
+abbrev pub ReadRefusals : Type 0
+ReadRefusals =
+    (f d bytes doubles : List ℕ) → Refusals (fpcReadOutcome f d bytes doubles) doubles f d
+
+-- "A store changes the bits of its own slot and no others": whatever it answers, every bit before the slot and every bit after it is kept
+abbrev pub StoreOwnSlot : Type 0
+StoreOwnSlot =
+    (p : Params) (archive : List ℕ) (k : ℕ) (ws : List ℕ) (i : ℕ)
+    → (i < k * widthOf p → BitKept p archive k ws i) × (k * widthOf p + widthOf p ≤ i → BitKept p archive k ws i)
+
+-- "Bits past the last slot are never changed"
+abbrev pub StorePastSlots : Type 0
+StorePastSlots =
+    (p : Params) (archive : List ℕ) (k : ℕ) (ws : List ℕ) (i : ℕ) → slotsIn p (length archive) * widthOf p ≤ i → BitKept p archive k ws i
+
+-- so a store into slot k, whatever it answers, leaves the bits of every other slot
+abbrev pub OtherSlot : Type 0
+OtherSlot =
+    (p : Params) (archive : List ℕ) (k : ℕ) (ws : List ℕ) (j : ℕ) → (j ≡ k → ⊥) → slotIn p (storeOutcome p archive k ws .bits) j ≡ slotOf p archive j
+
+abbrev pub Demand1 : Type 0
+Demand1 = RefusedStore × RefusedRead × RefusedSlotCount × RefusedBitCount × WriteRefusals × ReadRefusals × StoreOwnSlot × StorePastSlots × OtherSlot

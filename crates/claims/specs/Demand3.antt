@@ -34,25 +34,47 @@ RefusesAsTooLong p ws n =
     (archive : List ℕ) (k : ℕ) → Storable p archive k ws
     → (storeOutcome p archive k ws .answer ≡ 10) × (storeOutcome p archive k ws .count ≡ n)
 
-pub record Demand3 : Type 0 where
-  -- "N words coded to p planes take at most N x p + N - 1 bits", for every N from 1, every p and every word size w
-  pub planes-bound : (w p : ℕ) (ws : List ℕ) → 1 ≤ length ws → length (planesCode w p ws) ≤ length ws * p + length ws - 1
-  -- "and some take exactly that": some N words of w bits, for each N from 1 and each p from 1 to w
-  pub planes-bound-met : (w N p : ℕ) → 1 ≤ N → 1 ≤ p → p ≤ w
-      → (ws : List ℕ) × (length ws ≡ N) × AllBelow (2 ^ w) ws × (length (planesCode w p ws) ≡ N * p + N - 1)
-  -- "slots of 33N + 4 bits take every exact integer block", and so do wider ones
-  pub takes-integers : (p : Params) → Dimension (p .dimension) → exact p ≡ true → float p ≡ false
-      → 33 * wordCount p + 4 ≤ widthOf p → (ws : List ℕ) → Takes p ws
-  -- "slots of 33N + 14 every exact block of float patterns", and so do wider ones
-  pub takes-floats : (p : Params) → Dimension (p .dimension) → exact p ≡ true → float p ≡ true
-      → 33 * wordCount p + 14 ≤ widthOf p → (ws : List ℕ) → Takes p ws
-  -- "and slots of 33N + 3 refuse some integer block": for each dimension there is a block that every such slot refuses as too long, with 33N + 4
-  pub refuses-some : (d : ℕ) → Dimension d
-      → (ws : List ℕ) × IsBlock d ws
-      × ((p : Params) → p .dimension ≡ d → exact p ≡ true → float p ≡ false → widthOf p ≡ 33 * wordCount p + 3 → RefusesAsTooLong p ws (33 * wordCount p + 4))
-  -- "Every count reported is the length of the defined code": of a done store, and with answer 10
-  pub store-count : (p : Params) (archive : List ℕ) (k : ℕ) (ws : List ℕ)
-      → (storeOutcome p archive k ws .answer ≡ 0 → storeOutcome p archive k ws .count ≡ length (codeOf p ws))
-      × (storeOutcome p archive k ws .answer ≡ 10 → storeOutcome p archive k ws .count ≡ length (codeOf p ws))
-  -- of a done bit count
-  pub bit-count : (p : Params) (ws : List ℕ) → bitOutcome p ws .answer ≡ 0 → bitOutcome p ws .count ≡ length (codeOf p ws)
+-- "N words coded to p planes take at most N x p + N - 1 bits", for every N from 1, every p and every word size w
+abbrev pub PlanesBound : Type 0
+PlanesBound =
+    (w p : ℕ) (ws : List ℕ) → 1 ≤ length ws → length (planesCode w p ws) ≤ length ws * p + length ws - 1
+
+-- "and some take exactly that": some N words of w bits, for each N from 1 and each p from 1 to w
+abbrev pub PlanesBoundMet : Type 0
+PlanesBoundMet =
+    (w N p : ℕ) → 1 ≤ N → 1 ≤ p → p ≤ w
+    → (ws : List ℕ) × (length ws ≡ N) × AllBelow (2 ^ w) ws × (length (planesCode w p ws) ≡ N * p + N - 1)
+
+-- "slots of 33N + 4 bits take every exact integer block", and so do wider ones
+abbrev pub TakesIntegers : Type 0
+TakesIntegers =
+    (p : Params) → Dimension (p .dimension) → exact p ≡ true → float p ≡ false
+    → 33 * wordCount p + 4 ≤ widthOf p → (ws : List ℕ) → Takes p ws
+
+-- "slots of 33N + 14 every exact block of float patterns", and so do wider ones
+abbrev pub TakesFloats : Type 0
+TakesFloats =
+    (p : Params) → Dimension (p .dimension) → exact p ≡ true → float p ≡ true
+    → 33 * wordCount p + 14 ≤ widthOf p → (ws : List ℕ) → Takes p ws
+
+-- "and slots of 33N + 3 refuse some integer block": for each dimension there is a block that every such slot refuses as too long, with 33N + 4
+abbrev pub RefusesSome : Type 0
+RefusesSome =
+    (d : ℕ) → Dimension d
+    → (ws : List ℕ) × IsBlock d ws
+    × ((p : Params) → p .dimension ≡ d → exact p ≡ true → float p ≡ false → widthOf p ≡ 33 * wordCount p + 3 → RefusesAsTooLong p ws (33 * wordCount p + 4))
+
+-- "Every count reported is the length of the defined code": of a done store, and with answer 10
+abbrev pub StoreCount : Type 0
+StoreCount =
+    (p : Params) (archive : List ℕ) (k : ℕ) (ws : List ℕ)
+    → (storeOutcome p archive k ws .answer ≡ 0 → storeOutcome p archive k ws .count ≡ length (codeOf p ws))
+    × (storeOutcome p archive k ws .answer ≡ 10 → storeOutcome p archive k ws .count ≡ length (codeOf p ws))
+
+-- of a done bit count
+abbrev pub BitCount : Type 0
+BitCount =
+    (p : Params) (ws : List ℕ) → bitOutcome p ws .answer ≡ 0 → bitOutcome p ws .count ≡ length (codeOf p ws)
+
+abbrev pub Demand3 : Type 0
+Demand3 = PlanesBound × PlanesBoundMet × TakesIntegers × TakesFloats × RefusesSome × StoreCount × BitCount

@@ -1,6 +1,6 @@
 // Stores and reads put together, proved from the calls' contracts alone.
 ghost use mathlib.Core.Path.{_≡_};
-ghost use Rattle.claims.specs.Composed.{storeRead, readAfterStore, storeThenRead};
+ghost use Rattle.compositions.specs.Composed.{storeRead, readAfterStore, storeThenRead};
 use params::Params;
 use slots::Reply;
 

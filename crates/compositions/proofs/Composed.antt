@@ -7,9 +7,9 @@ use native.Mathlib.Omega.{arith}
 use borrow.Author.Tests.{eq-eqb, ne-eqb, leb-true}
 use lib.Dec.{leb}
 use lib.ListN.{length, take, drop, length-append}
-use lib.Seq.{slice, take-all}
+use lib.Seq.{take-all}
 use Rattle.bits.specs.declared.Cursor.{Cursor}
-use Rattle.bits.specs.Stream.{bitsOf, write}
+use Rattle.bits.specs.Stream.{bitsOf}
 use Rattle.bits.specs.Calls.{Written}
 use Rattle.bits.proofs.StreamLaws.{length-bitsOf}
 use Rattle.planes.specs.Coder.{planesCode}
@@ -24,7 +24,7 @@ use Rattle.fpc_stream.specs.Outcome.{Outcome, done, fpcWriteOutcome, fpcReadOut
 use Rattle.fpc_stream.proofs.Promises.{write-answers-0, write-done}
 use Rattle.fpc.specs.declared.Reply as fpc
 use Rattle.fpc.specs.Calls.{outcome}
-use Rattle.claims.specs.Composed.{storeRead, readAfterStore, storeThenRead, codable, planesBack, planesThereAndBack, runBack, writeThenRead}
+use Rattle.compositions.specs.Composed.{storeRead, readAfterStore, storeThenRead, codable, planesBack, planesThereAndBack, runBack, writeThenRead}
 
 -- ---- a store and then a read
 

@@ -1,8 +1,8 @@
 -- One bound after the other. Assumes nothing.
 use native.Mathlib.Omega.{arith}
 use borrow.Author.Tests.{le-leb, lt-leb}
-use Rattle.claims.proofs.can_code.Statement.{statement}
-use Rattle.claims.proofs.can_code.Tie as tie
+use Rattle.compositions.proofs.can_code.Statement.{statement}
+use Rattle.compositions.proofs.can_code.Tie as tie
 
 returns : tie.Need-returns
 returns c =

@@ -1,8 +1,8 @@
 -- The store's outcome, and after a done one that of the read.
 use borrow.Author.Needs.{needs}
-use Rattle.claims.proofs.Composed.{store-passed-on, read-then}
-use Rattle.claims.proofs.archives.store_and_read.Statement.{statement}
-use Rattle.claims.proofs.archives.store_and_read.Tie as tie
+use Rattle.compositions.proofs.Composed.{store-passed-on, read-then}
+use Rattle.compositions.proofs.archives.store_and_read.Statement.{statement}
+use Rattle.compositions.proofs.archives.store_and_read.Tie as tie
 
 store-requires : tie.Need-store-requires
 store-requires c κs = search needs

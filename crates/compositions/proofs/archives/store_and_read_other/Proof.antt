@@ -1,8 +1,8 @@
 -- The read's outcome on the bits that the store left.
 use borrow.Author.Needs.{needs}
-use Rattle.claims.proofs.Composed.{read-after}
-use Rattle.claims.proofs.archives.store_and_read_other.Statement.{statement}
-use Rattle.claims.proofs.archives.store_and_read_other.Tie as tie
+use Rattle.compositions.proofs.Composed.{read-after}
+use Rattle.compositions.proofs.archives.store_and_read_other.Statement.{statement}
+use Rattle.compositions.proofs.archives.store_and_read_other.Tie as tie
 
 store-requires : tie.Need-store-requires
 store-requires c κs = search needs

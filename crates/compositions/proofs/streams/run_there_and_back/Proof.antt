@@ -2,9 +2,9 @@
 use mathlib.Core.Path.{sym}
 use lib.Seq.{length-take-le}
 use borrow.Author.Needs.{needs}
-use Rattle.claims.proofs.Composed.{run-passed-on, counted, run-read}
-use Rattle.claims.proofs.streams.run_there_and_back.Statement.{statement}
-use Rattle.claims.proofs.streams.run_there_and_back.Tie as tie
+use Rattle.compositions.proofs.Composed.{run-passed-on, counted, run-read}
+use Rattle.compositions.proofs.streams.run_there_and_back.Statement.{statement}
+use Rattle.compositions.proofs.streams.run_there_and_back.Tie as tie
 
 fpc-write-requires : tie.Need-fpc-write-requires
 fpc-write-requires c κs = search needs

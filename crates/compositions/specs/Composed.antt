@@ -91,30 +91,43 @@ writeThenRead f d vs buf back =
 
 -- ---- what comes back
 
-pub record RoundTrips : Type 0 where
-  -- an exact block that was stored is read
-  pub stored-block : (p : Params) (archive : List ℕ) (k : ℕ) (ws back : List ℕ)
-      → exact p ≡ true → AllBelow (2 ^ 32) ws → storeOutcome p archive k ws .answer ≡ 0 → length back ≡ length ws
-      → storeThenRead p archive k ws back ≡ record { answer = 0; count = wordCount p; bits = storeOutcome p archive k ws .bits; words = ws }
-  -- a store into one slot leaves what a read of another gives
-  pub other-slot : (p : Params) (archive : List ℕ) (k : ℕ) (ws : List ℕ) (j : ℕ) (back : List ℕ) → (j ≡ k → ⊥)
-      → (readAfterStore p archive k ws j back .answer ≡ readOutcome p (length archive) j (slotOf p archive j) back .answer)
-      × (readAfterStore p archive k ws j back .count ≡ readOutcome p (length archive) j (slotOf p archive j) back .count)
-      × (readAfterStore p archive k ws j back .words ≡ readOutcome p (length archive) j (slotOf p archive j) back .words)
-  -- of words of `size` bits, coded to p planes with room for any code of them, the p top planes come back, the others are 0
-  pub top-planes : (size : ℕ) (ws : List ℕ) (p : ℕ) (buf back : List ℕ)
-      → codable size p (length ws) (length buf) ≡ true → AllBelow (2 ^ size) ws → 1 ≤ length ws → mostBits (length ws) p ≤ 8 * length buf
-      → length back ≡ length ws
-      → planesThereAndBack size ws p buf back .words ≡ map (λ x. x / 2 ^ (size - p) * 2 ^ (size - p)) ws
-  -- a run that was written is read, into any room for it, and the tables stand as the writer left them
-  pub written-run : (f d vs buf back : List ℕ)
-      → fpcWriteOutcome f d vs buf .answer ≡ 0 → AllBelow (2 ^ 64) vs → length vs ≤ length back
-      → writeThenRead f d vs buf back
-      ≡ record {
-        answer = 0;
-        count = length vs;
-        bytes = fpcWriteOutcome f d vs buf .out;
-        doubles = vs ++ drop (length vs) back;
-        f = fpcWriteOutcome f d vs buf .f;
-        d = fpcWriteOutcome f d vs buf .d;
-      }
+-- an exact block that was stored is read
+abbrev pub StoredBlock : Type 0
+StoredBlock =
+    (p : Params) (archive : List ℕ) (k : ℕ) (ws back : List ℕ)
+    → exact p ≡ true → AllBelow (2 ^ 32) ws → storeOutcome p archive k ws .answer ≡ 0 → length back ≡ length ws
+    → storeThenRead p archive k ws back ≡ record { answer = 0; count = wordCount p; bits = storeOutcome p archive k ws .bits; words = ws }
+
+-- a store into one slot leaves what a read of another gives
+abbrev pub OtherSlotRead : Type 0
+OtherSlotRead =
+    (p : Params) (archive : List ℕ) (k : ℕ) (ws : List ℕ) (j : ℕ) (back : List ℕ) → (j ≡ k → ⊥)
+    → (readAfterStore p archive k ws j back .answer ≡ readOutcome p (length archive) j (slotOf p archive j) back .answer)
+    × (readAfterStore p archive k ws j back .count ≡ readOutcome p (length archive) j (slotOf p archive j) back .count)
+    × (readAfterStore p archive k ws j back .words ≡ readOutcome p (length archive) j (slotOf p archive j) back .words)
+
+-- of words of `size` bits, coded to p planes with room for any code of them, the p top planes come back, the others are 0
+abbrev pub TopPlanes : Type 0
+TopPlanes =
+    (size : ℕ) (ws : List ℕ) (p : ℕ) (buf back : List ℕ)
+    → codable size p (length ws) (length buf) ≡ true → AllBelow (2 ^ size) ws → 1 ≤ length ws → mostBits (length ws) p ≤ 8 * length buf
+    → length back ≡ length ws
+    → planesThereAndBack size ws p buf back .words ≡ map (λ x. x / 2 ^ (size - p) * 2 ^ (size - p)) ws
+
+-- a run that was written is read, into any room for it, and the tables stand as the writer left them
+abbrev pub WrittenRun : Type 0
+WrittenRun =
+    (f d vs buf back : List ℕ)
+    → fpcWriteOutcome f d vs buf .answer ≡ 0 → AllBelow (2 ^ 64) vs → length vs ≤ length back
+    → writeThenRead f d vs buf back
+    ≡ record {
+      answer = 0;
+      count = length vs;
+      bytes = fpcWriteOutcome f d vs buf .out;
+      doubles = vs ++ drop (length vs) back;
+      f = fpcWriteOutcome f d vs buf .f;
+      d = fpcWriteOutcome f d vs buf .d;
+    }
+
+abbrev pub RoundTrips : Type 0
+RoundTrips = StoredBlock × OtherSlotRead × TopPlanes × WrittenRun

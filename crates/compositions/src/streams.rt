@@ -1,6 +1,6 @@
 // A run of doubles written to a stream and read back.
 ghost use mathlib.Core.Path.{_≡_};
-ghost use Rattle.claims.specs.Composed.{runBack, writeThenRead};
+ghost use Rattle.compositions.specs.Composed.{runBack, writeThenRead};
 
 // A run is written into a lent buffer and, if the writer answers 0, read back with the same tables. Any other answer of the writer is passed on.
 pub fn run_there_and_back(

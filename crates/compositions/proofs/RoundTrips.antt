@@ -15,28 +15,20 @@ use Rattle.planes.specs.Coder.{planesCode, mostBits}
 use Rattle.planes.specs.Reader.{readWords}
 use Rattle.planes.proofs.Bound.{bound}
 use Rattle.planes.proofs.RoundTrip.{words-top}
-use Rattle.params.specs.declared.Params.{Params}
-use Rattle.params.specs.Width.{exact, wordCount}
-use Rattle.slots.specs.Outcome.{storeOutcome, readOutcome, slotOf}
 use Rattle.fpc_stream.specs.Outcome.{Outcome, goodTables, done, fpcWriteOutcome}
 use Rattle.fpc_stream.proofs.Lengths.{table-lengths}
 use Rattle.fpc_stream.proofs.Rows.{good-tables}
 use Rattle.fpc_stream.proofs.Promises.{written-is-read, write-answers-0, write-done}
-use Rattle.claims.specs.Composed.{readAfterStore, storeThenRead, codable, planesThereAndBack, writeThenRead, RoundTrips}
-use Rattle.claims.proofs.Composed.{coded}
+use Rattle.compositions.specs.Composed.{readAfterStore, storeThenRead, planesThereAndBack, writeThenRead, StoredBlock, OtherSlotRead, TopPlanes, RoundTrips}
+use Rattle.compositions.proofs.Composed.{coded}
 use Rattle.claims.proofs.Demand1.{other-slot}
 use Rattle.claims.proofs.Demand2.{comes-back}
 
-stored-block : (p : Params) (archive : List ℕ) (k : ℕ) (ws back : List ℕ)
-    → exact p ≡ true → AllBelow (2 ^ 32) ws → storeOutcome p archive k ws .answer ≡ 0 → length back ≡ length ws
-    → storeThenRead p archive k ws back ≡ record { answer = 0; count = wordCount p; bits = storeOutcome p archive k ws .bits; words = ws }
+stored-block : StoredBlock
 unfolding storeThenRead readAfterStore
 stored-block p archive k ws back e small z long = rw (eq-eqb _ 0 z, comes-back p archive k ws e small z back long) refl
 
-left-alone : (p : Params) (archive : List ℕ) (k : ℕ) (ws : List ℕ) (j : ℕ) (back : List ℕ) → (j ≡ k → ⊥)
-    → (readAfterStore p archive k ws j back .answer ≡ readOutcome p (length archive) j (slotOf p archive j) back .answer)
-    × (readAfterStore p archive k ws j back .count ≡ readOutcome p (length archive) j (slotOf p archive j) back .count)
-    × (readAfterStore p archive k ws j back .words ≡ readOutcome p (length archive) j (slotOf p archive j) back .words)
+left-alone : OtherSlotRead
 unfolding readAfterStore
 left-alone p archive k ws j back h = rw (other-slot p archive k ws j h) (refl, refl, refl)
 
@@ -56,10 +48,7 @@ module _ (size : ℕ) (ws : List ℕ) (p : ℕ) (buf : List ℕ) (small : AllBel
       ap (readWords size (length ws) p) (sym all ∙ slice-write (bitsOf buf) 0 end end code (omega (arith, bound size p ws some)) (omega arith) (omega (arith, long)))
       ∙ words-top size p ws (slice (0 + length code) end (bitsOf buf)) small few
 
-top-planes : (size : ℕ) (ws : List ℕ) (p : ℕ) (buf back : List ℕ)
-    → codable size p (length ws) (length buf) ≡ true → AllBelow (2 ^ size) ws → 1 ≤ length ws → mostBits (length ws) p ≤ 8 * length buf
-    → length back ≡ length ws
-    → planesThereAndBack size ws p buf back .words ≡ map (λ x. x / 2 ^ (size - p) * 2 ^ (size - p)) ws
+top-planes : TopPlanes
 unfolding planesThereAndBack
 top-planes size ws p buf back fine small some room long =
     rw (fine, long) (planes-return size ws p buf small (coded size ws p buf back fine .1) some room)
@@ -85,4 +74,4 @@ module _ (f d vs buf back : List ℕ) (z : fpcWriteOutcome f d vs buf .answer �
       rw (eq-eqb _ 0 z, written-is-read f d (w .f) (w .d) vs buf back z (left-tables .0) (left-tables .1) small room) refl
 
 pub round-trips : RoundTrips
-round-trips = record { stored-block = stored-block; other-slot = left-alone; top-planes = top-planes; written-run = written-run }
+round-trips = (stored-block, left-alone, top-planes, written-run)
