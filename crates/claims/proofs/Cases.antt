@@ -34,7 +34,8 @@ use Rattle.claims.specs.Table.{P12, Paper, Ours, Table}
 
 -- everything that the cases compute with
 unfoldable computed : ℕ
-unfolding plus minus half twiceLess nega unnega flip planeCode planeNext planesCode readPlane readNext readWords lift unlift differ undiffer along reorder restore coefficients values
+unfolding plus minus half twiceLess nega unnega flip planeCode planeNext planesCode readPlane readNext readWords lift unlift differ undiffer
+    along reorder restore coefficients values
     toInteger toPattern signed scaled whole ofBits toBits round planesNeeded exactPlanes lossyIntegers lossyFloats exactIntegers exactFloats definedCode
     readIntegers readExactFloats readLossyFloats readCode slotsIn codeOf wordsOf write countOutcome storeOutcome readOutcome slotOf
     leadingZeros side fcmHash dfcmHash zeroBytes residual residualCode halfByte remaining pairBytes oddBytes stream decoded coded stepOf read

@@ -90,10 +90,12 @@ other-slot p archive k ws j h = go (eqb (row p archive k ws) 0) (decLe j k)
     go : (b : Bool) → Dec (j ≤ k) → slotIn p (after-store p archive k ws b) j ≡ slotIn p (bitsOf archive) j
     go false l = refl
     go true (yes l) =
-        slice-write-before (bitsOf archive) (at p archive k ws) (at p archive k ws + widthOf p) (j * widthOf p) (j * widthOf p + widthOf p) (code p archive k ws)
+        let from = at p archive k ws in
+        slice-write-before (bitsOf archive) from (from + widthOf p) (j * widthOf p) (j * widthOf p + widthOf p) (code p archive k ws)
         (slots-apart j k (widthOf p) (lt-of-le-ne l h))
     go true (no l) =
-        slice-write-after (bitsOf archive) (at p archive k ws) (at p archive k ws + widthOf p) (j * widthOf p) (j * widthOf p + widthOf p) (code p archive k ws)
+        let from = at p archive k ws in
+        slice-write-after (bitsOf archive) from (from + widthOf p) (j * widthOf p) (j * widthOf p + widthOf p) (code p archive k ws)
         (omega arith) (slots-apart k j (widthOf p) (omega arith))
 
 pub demand1 : Demand1

@@ -63,7 +63,13 @@ module _ (out f d : List ℕ) where
       where
         go : (short : Bool) → Refusals (cond short (zeroed 22 (length result) (length f) out) (done (length f) vs result out)) out f d
         go true = refused-22 (length result)
-        go false = record { after-20 = λ e. absurd (omega arith); after-21 = λ e. absurd (omega arith); after-22 = λ e. absurd (omega arith); after-23 = λ e. absurd (omega arith) }
+        go false =
+            record {
+              after-20 = λ e. absurd (omega arith);
+              after-21 = λ e. absurd (omega arith);
+              after-22 = λ e. absurd (omega arith);
+              after-23 = λ e. absurd (omega arith);
+            }
 
 -- demand 1: what a refused write leaves
 pub write-refusals : WriteRefusals

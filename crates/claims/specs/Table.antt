@@ -135,11 +135,15 @@ LossyFloats =
     ≡ record { answer = 0; count = 16; bits = bits (1 ∷ 0 ∷ 0 ∷ 0 ∷ 0 ∷ 0 ∷ 0 ∷ 0 ∷ 1 ∷ 0 ∷ 1 ∷ 1 ∷ 0 ∷ 1 ∷ 0 ∷ 0 ∷ []) })
     × (readBack (lossyFloatsAt 16) 2 (replicate 4 0x3f80_0000) ≡ record { answer = 0; count = 4; words = replicate 4 0x3f80_0000 })
 
+-- what a read of slot 0 of these bytes gives; the buffer holds 9s before
+abbrev pub readOf : Params → List ℕ → Fetched
+readOf p archive = readOutcome p (length archive) 0 (slotOf p archive 0) (replicate 4 9)
+
 -- 11 for a one in the padding of P1's six bits; and for bits 1 0 with e = 0, since zeros are coded as a single 0
 abbrev pub Answers11 : Type 0
 Answers11 =
-    (readOutcome (exactIntegersAt 16) 2 0 (slotOf (exactIntegersAt 16) (0x00 ∷ 0x80 ∷ []) 0) (replicate 4 9) ≡ record { answer = 11; count = 0; words = replicate 4 9 })
-    × (readOutcome (exactFloatsAt 16) 2 0 (slotOf (exactFloatsAt 16) (0x01 ∷ 0x00 ∷ []) 0) (replicate 4 9) ≡ record { answer = 11; count = 0; words = replicate 4 9 })
+    (readOf (exactIntegersAt 16) (0x00 ∷ 0x80 ∷ []) ≡ record { answer = 11; count = 0; words = replicate 4 9 })
+    × (readOf (exactFloatsAt 16) (0x01 ∷ 0x00 ∷ []) ≡ record { answer = 11; count = 0; words = replicate 4 9 })
 
 -- ---- rows of our own: coefficients and planes
 
@@ -208,7 +212,9 @@ abbrev pub ListedBad : Type 0
 ListedBad =
     (listing [] ≡ textLine "0c0000")
     × (listing (textLine "000301200030" ++ textLine "00000001000000010000000100000001") ≡ textLine "020000")
-    × (listing (textLine "010100200030" ++ textLine "7F800000000000000000000000000000" ++ textLine "7f800000000000000000000000000000" ++ text "00") ≡ textLine "0c0000" ++ textLine "090000" ++ textLine "0c0000")
+    × (listing
+    (textLine "010100200030" ++ textLine "7F800000000000000000000000000000" ++ textLine "7f800000000000000000000000000000" ++ text "00")
+    ≡ textLine "0c0000" ++ textLine "090000" ++ textLine "0c0000")
 
 -- ---- all
 

@@ -19,7 +19,8 @@ use Rattle.fpc_stream.specs.Outcome.{Outcome, goodTables, done, fpcWriteOutcome
 use Rattle.fpc_stream.proofs.Lengths.{table-lengths}
 use Rattle.fpc_stream.proofs.Rows.{good-tables}
 use Rattle.fpc_stream.proofs.Promises.{written-is-read, write-answers-0, write-done}
-use Rattle.compositions.specs.Composed.{readAfterStore, storeThenRead, planesThereAndBack, writeThenRead, StoredBlock, OtherSlotRead, TopPlanes, RoundTrips}
+use Rattle.compositions.specs.Composed.{readAfterStore, storeThenRead, planesThereAndBack, writeThenRead}
+use Rattle.compositions.specs.Composed.{StoredBlock, OtherSlotRead, TopPlanes, RoundTrips}
 use Rattle.compositions.proofs.Composed.{coded}
 use Rattle.claims.proofs.Demand1.{other-slot}
 use Rattle.claims.proofs.Demand2.{comes-back}
@@ -45,7 +46,8 @@ module _ (size : ℕ) (ws : List ℕ) (p : ℕ) (buf : List ℕ) (small : AllBel
   planes-return =
       let long = length-bitsOf buf in
       let all = take-all end (write (bitsOf buf) 0 end code) (omega (arith, long, length-write (bitsOf buf) 0 end code)) in
-      ap (readWords size (length ws) p) (sym all ∙ slice-write (bitsOf buf) 0 end end code (omega (arith, bound size p ws some)) (omega arith) (omega (arith, long)))
+      let front = slice-write (bitsOf buf) 0 end end code (omega (arith, bound size p ws some)) (omega arith) (omega (arith, long)) in
+      ap (readWords size (length ws) p) (sym all ∙ front)
       ∙ words-top size p ws (slice (0 + length code) end (bitsOf buf)) small few
 
 top-planes : TopPlanes

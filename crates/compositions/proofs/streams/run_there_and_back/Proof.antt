@@ -35,7 +35,8 @@ slice-reshare-prefix-fpc-read c =
     let wrote = fine .before .before .before .before .before .before .before .before in
     let a = wrote .before .before .before .before .before .before .before .before .before .args in
     let w = wrote .fpc-write in
-    counted (a .f .now) (a .d .now) (a .doubles .now) (a .buf .now) (w .result) (w .last .1 .1 .1 .0) (w .last .0) (w .last .1 .0) (w .ensures) (fine .if1 .left)
+    counted (a .f .now) (a .d .now) (a .doubles .now) (a .buf .now) (w .result) (w .last .1 .1 .1 .0) (w .last .0) (w .last .1 .0) (w .ensures)
+    (fine .if1 .left)
 
 slice-aggregate-fpc-read : tie.Need-slice-aggregate-fpc-read
 slice-aggregate-fpc-read c = sym (length-take-le _ _ (slice-reshare-prefix-fpc-read (c .before)))
@@ -63,8 +64,8 @@ returns-2 c =
     let a = wrote .before .before .before .before .before .before .before .before .before .args in
     let w = wrote .fpc-write in
     let r = got .fpc-read in
-    run-read (a .f .now) (a .d .now) (a .doubles .now) (a .buf .now) (w .result) (w .last .1 .1 .1 .0) (w .last .0) (w .last .1 .0) (w .ensures) (fine .if1 .left)
-    (r .result) (a .back .now) (r .last .1 .1 .1 .0) (r .last .0) (r .last .1 .0) (r .ensures)
+    run-read (a .f .now) (a .d .now) (a .doubles .now) (a .buf .now) (w .result) (w .last .1 .1 .1 .0) (w .last .0) (w .last .1 .0) (w .ensures)
+    (fine .if1 .left) (r .result) (a .back .now) (r .last .1 .1 .1 .0) (r .last .0) (r .last .1 .0) (r .ensures)
 
 pub run-there-and-back-spec : {M : Type 1} → statement M
 run-there-and-back-spec =

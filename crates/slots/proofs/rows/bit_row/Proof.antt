@@ -19,7 +19,8 @@ returns : tie.Need-returns
 returns c =
     let s = c .before .before .before .args in
     let ws = s .words .now in
-    c .before .parameter-row .ensures ∙ sym (first-some (parameterRows (s .p)) (row8 (s .p) (length ws) ∷ row9 (s .p) ws ∷ []) (λ e. c .if1 .taken (c .before .parameter-row .ensures ∙ e)))
+    let row = c .before .parameter-row .ensures in
+    row ∙ sym (first-some (parameterRows (s .p)) (row8 (s .p) (length ws) ∷ row9 (s .p) ws ∷ []) (λ e. c .if1 .taken (row ∙ e)))
 
 word-count-requires : tie.Need-word-count-requires
 word-count-requires c κs =
