@@ -149,14 +149,25 @@ progress() {
     printf '%s' "$held"
 }
 
+# How many provers run at a time. rt starts so many and waits for all of them before it starts more, so with two a processor few of the
+# processors wait; one takes up to 1.3 GB of memory. RT_JOBS, if it is set, decides.
+prover_jobs() {
+    local jobs room
+    jobs=$((2 * $(nproc 2>/dev/null || echo 1)))
+    room=$(awk '/^MemAvailable:/ { print int($2 / 1500000) }' /proc/meminfo 2>/dev/null)
+    [ -z "$room" ] || [ "$room" -ge "$jobs" ] || jobs=$room
+    [ "$jobs" -ge 1 ] || jobs=1
+    echo "${RT_JOBS:-$jobs}"
+}
+
 # prove_crates NAME..: these, or all
 prove_crates() {
-    rt check "$@" 2>&1 | progress "$(reached "$@" | wc -l)" 0
+    RT_JOBS=$(prover_jobs) rt check "$@" 2>&1 | progress "$(reached "$@" | wc -l)" 0
     return "${PIPESTATUS[0]}"
 }
 
 # prove_all LOG: the gate, with all that rt says in LOG
 prove_all() {
-    rt ci 2>&1 | tee "$1" | progress "$(crate_count)" "$(edit_count)"
+    RT_JOBS=$(prover_jobs) rt ci 2>&1 | tee "$1" | progress "$(crate_count)" "$(edit_count)"
     return "${PIPESTATUS[0]}"
 }
