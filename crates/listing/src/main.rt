@@ -1,6 +1,13 @@
 // The listing program: lists standard input on standard output. All that matters is in `frames`; here the bytes come and go.
-ghost use Prim.Native.Nat.{_≤_};
-ghost use lib.ListN.{length};
+ghost use mathlib.Core.Path.{_≡_};
+ghost use mathlib.Core.Bool.{cond};
+ghost use mathlib.Core.List.{[]};
+ghost use Prim.Native.Nat.{ℕ, _≤_, _<_};
+ghost use lib.Dec.{leb};
+ghost use lib.ListN.{length, take};
+ghost use lib.Seq.{sets};
+ghost use Rattle.lines.specs.Line.{longestLine};
+ghost use Rattle.frames.specs.Pieces.{stateOf, run, taken, ending};
 use frames::Partial;
 use libc::EINTR;
 use libc::STDIN_FILENO;
@@ -34,7 +41,8 @@ fn write_out(bytes: &[u8]) -> bool {
 
 // Some bytes of a piece go in, and what they give goes out. No byte is taken where the output failed.
 fn list_part(s: Partial, piece: &[u8], out: &mut [u8]) -> Part
-    ensures { λ r. ⌜ r .used ≤ length (now (piece .entry)) ⌝ }
+    ensures { λ r. ⌜ (stateOf (r .state) ≡ run (stateOf s) (take (taken (stateOf s) (now (piece .entry)) (length (now (out .entry)))) (now (piece .entry))) .state)
+        × (0 < r .used → r .used ≡ taken (stateOf s) (now (piece .entry)) (length (now (out .entry)))) × (r .used ≤ length (now (piece .entry))) ⌝ }
 {
     let t = frames::feed(s, piece, out);
     let made = t.made;
@@ -48,21 +56,24 @@ fn list_part(s: Partial, piece: &[u8], out: &mut [u8]) -> Part
     }
 }
 
-// A whole piece.
-fn list_piece(s: Partial, piece: &[u8], out: &mut [u8]) -> Turn {
+// A whole piece, each byte of it once.
+fn list_piece(s: Partial, piece: &[u8], out: &mut [u8]) -> Turn
+    ensures { λ r. ⌜ (r .next ≡ Next.More → stateOf (r .state) ≡ run (stateOf s) (now (piece .entry)) .state) × (r .next ≡ Next.Ended → ⊥) ⌝ }
+{
     let mut state = s;
     let mut at = 0;
     while at < piece.len() {
         let p = list_part(state, &piece[at..], out);
         let next = p.state;
         state = next;
-        if p.used == 0 {
+        let used = p.used;
+        if used == 0 {
             return Turn {
                 state,
                 next: Next::Stop,
             };
         }
-        at += p.used;
+        at += used;
     }
     Turn {
         state,
@@ -80,7 +91,10 @@ fn failed() -> Next {
 }
 
 // One read, and what came of it.
-fn read_once(s: Partial, input: &mut [u8], out: &mut [u8]) -> Turn {
+fn read_once(s: Partial, input: &mut [u8], out: &mut [u8]) -> Turn
+    ensures { λ r. ⌜ (r .next ≡ Next.More → (n : ℕ) × (stateOf (r .state) ≡ run (stateOf s) (take n (now (input .exit))) .state))
+        × (r .next ≡ Next.Ended → r .state ≡ s) ⌝ }
+{
     let got = libc::read(STDIN_FILENO, input);
     if got < 0 {
         let next = failed();
@@ -97,7 +111,9 @@ fn read_once(s: Partial, input: &mut [u8], out: &mut [u8]) -> Turn {
 }
 
 // The end of the input.
-fn end(s: Partial, out: &mut [u8]) {
+fn end(s: Partial, out: &mut [u8])
+    ensures { λ r. ⌜ now (out .exit) ≡ sets (now (out .entry)) 0 (cond (leb longestLine (length (now (out .entry)))) (ending (stateOf s)) []) ⌝ }
+{
     let e = frames::finish(s, out);
     let made = e.made;
     write_out(&out[..made]);
