@@ -24,7 +24,7 @@ use Rattle.params.specs.Width.{slotsIn}
 use Rattle.slots.specs.Rules.{codeOf}
 use Rattle.slots.specs.Outcome.{storeOutcome}
 use mathlib.Core.List.{flatMap}
-use Rattle.lines.specs.Hex.{hexDigit, digitValue}
+use Rattle.hex.specs.Digits.{hexDigit, digitValue}
 use Rattle.lines.specs.Line.{wellFormed, parametersOf, firstAnswer, answerLine, slotBytes, storedLine, blockLine}
 use Rattle.claims.specs.Table.{Table}
 

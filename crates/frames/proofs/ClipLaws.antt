@@ -14,8 +14,10 @@ use Rattle.params.specs.Width.{wordCount}
 use Rattle.params.specs.Rows.{first, parameterRows}
 use Rattle.slots.specs.Outcome.{storeOutcome}
 use Rattle.params.proofs.RowLaws.{good}
-use Rattle.lines.specs.Line.{wellFormed, firstDigits, parametersOf, firstAnswer, answerLine, illFormed, wordsOf, slotBytes, storedLine, blockDigits, blockLine, goodParameters, firstLine, firstParameters, noParameters, laterLine}
-use Rattle.frames.specs.Pieces.{State, mostHeld, answerTo, nextLine, hold}
+use Rattle.lines.specs.Line.{wellFormed, firstDigits, parametersOf, firstAnswer, answerLine, illFormed, blockWords, slotBytes, storedLine, blockDigits, blockLine}
+use Rattle.lines.specs.Calls.{goodParameters, firstLine, firstParameters, noParameters, laterLine}
+use Rattle.partial_line.specs.Calls.{State, mostHeld, hold}
+use Rattle.frames.specs.Calls.{answerTo, nextLine}
 
 pub clip-append : (n : ℕ) (a b : List ℕ) → take n (take n a ++ b) ≡ take n (a ++ b)
 clip-append zero a b = refl
@@ -62,7 +64,7 @@ module _ (bytes : List ℕ) (ended : Bool) where
           → cond b (blockLine p (record { bytes = take mostHeld bytes; ended = ended })) [] ≡ cond b (blockLine p (record { bytes = bytes; ended = ended })) []
       go true e =
           let g = good p (eqb-true (first (parameterRows p)) 0 e) in
-          clipped (blockDigits p) (omega arith) (λ l. storedLine p (storeOutcome p (replicate (slotBytes p) 0) 0 (wordsOf (wordCount p) l))) illFormed bytes ended
+          clipped (blockDigits p) (omega arith) (λ l. storedLine p (storeOutcome p (replicate (slotBytes p) 0) 0 (blockWords (wordCount p) l))) illFormed bytes ended
       go false e = refl
 
 -- a state that holds a line whole, or what is held of it

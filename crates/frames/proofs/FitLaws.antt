@@ -13,8 +13,10 @@ use Rattle.params.specs.Width.{wordCount, widestBytes}
 use Rattle.params.specs.Rows.{first, parameterRows}
 use Rattle.slots.specs.Outcome.{Stored, storeOutcome}
 use Rattle.params.proofs.RowLaws.{good}
-use Rattle.lines.specs.Line.{newline, Line, wellFormed, firstAnswer, answerLine, illFormed, bytesOf, wordsOf, slotBytes, storedLine, blockDigits, blockLine, longestLine, goodParameters, firstLine, laterLine}
-use Rattle.frames.specs.Pieces.{State, lineOf, answerTo, nextLine, hold, run, nothingLeft, ending, taken}
+use Rattle.lines.specs.Line.{newline, Line, wellFormed, firstAnswer, answerLine, illFormed, bytesOf, blockWords, slotBytes, storedLine, blockDigits, blockLine}
+use Rattle.lines.specs.Calls.{longestLine, goodParameters, firstLine, laterLine}
+use Rattle.partial_line.specs.Calls.{State, hold, nothingLeft}
+use Rattle.frames.specs.Calls.{lineOf, answerTo, nextLine, run, ending, taken}
 use Rattle.lines.proofs.PutLaws.{length-answer}
 use Rattle.frames.proofs.PieceLaws.{run-newline, run-byte, Going}
 
@@ -38,10 +40,10 @@ unfolding blockLine slotBytes
 block-length p l e =
     go (wellFormed (blockDigits p) l)
   where
-    go : (t : Bool) → length (cond t (storedLine p (storeOutcome p (replicate (slotBytes p) 0) 0 (wordsOf (wordCount p) (l .bytes)))) illFormed) ≤ longestLine
+    go : (t : Bool) → length (cond t (storedLine p (storeOutcome p (replicate (slotBytes p) 0) 0 (blockWords (wordCount p) (l .bytes)))) illFormed) ≤ longestLine
     go true =
         let g = good p (eqb-true (first (parameterRows p)) 0 e) in
-        stored-length p (storeOutcome p (replicate (slotBytes p) 0) 0 (wordsOf (wordCount p) (l .bytes))) (omega arith)
+        stored-length p (storeOutcome p (replicate (slotBytes p) 0) 0 (blockWords (wordCount p) (l .bytes))) (omega arith)
     go false = refusal-length 12
 
 pub answer-length : (s : State) (ended : Bool) → length (answerTo s ended) ≤ longestLine

@@ -9,11 +9,12 @@ use native.Mathlib.Omega.{arith}
 use borrow.Author.Tests.{ne-eqb, eq-eqb}
 use lib.Dec.{eqb, leb}
 use lib.ListN.{length, take, drop, length-append, drop-of-length-le}
-use lib.Seq.{slice, sets, take-add, drop-drop}
+use lib.Seq.{sets, take-add, drop-drop}
 use Rattle.bits.proofs.WriteLaws.{sets-append}
-use Rattle.lines.specs.Line.{newline, longestLine}
-use Rattle.frames.specs.Pieces.{State, mostHeld, answerTo, nextLine, hold, Ran, run, taken, beforeNewline, lineLength, Fed}
-use Rattle.lines.proofs.PutLaws.{slice-take}
+use Rattle.lines.specs.Line.{newline}
+use Rattle.lines.specs.Calls.{longestLine}
+use Rattle.partial_line.specs.Calls.{State, mostHeld, hold}
+use Rattle.frames.specs.Calls.{answerTo, nextLine, Ran, run, taken, beforeNewline, lineLength, Fed}
 use Rattle.frames.proofs.ClipLaws.{clip-append, answer-hold, next-hold}
 
 -- ---- bytes one after the other
@@ -112,10 +113,6 @@ line-within (b ∷ bs) = go (eqb b newline) (line-within bs)
     go : (t : Bool) → lineLength bs ≤ length bs → cond t 1 (suc (lineLength bs)) ≤ suc (length bs)
     go true h = omega arith
     go false h = omega arith
-
--- the part of a piece from a place on
-pub part : (piece : List ℕ) (from to k : ℕ) → to ≡ from + k → slice from to piece ≡ take k (drop from piece)
-part piece from to k e = ap (λ (j : ℕ). slice from j piece) e ∙ slice-take from k piece
 
 -- ---- room
 

@@ -10,9 +10,11 @@ use lib.Dec.{eqb}
 use lib.ListN.{length, take}
 use Rattle.params.specs.declared.Params.{Params}
 use Rattle.params.specs.Rows.{first, parameterRows}
-use Rattle.lines.specs.Line.{newline, Line, wellFormed, firstDigits, parametersOf, firstAnswer, answerLine, blockLine, longestLine, goodParameters, noParameters, firstLine, firstParameters}
+use Rattle.lines.specs.Line.{newline, Line, wellFormed, firstDigits, parametersOf, firstAnswer, answerLine, blockLine}
+use Rattle.lines.specs.Calls.{longestLine, goodParameters, noParameters, firstLine, firstParameters}
 use Rattle.frames.specs.Listing.{lastLine, linesAfter, listLines, listing}
-use Rattle.frames.specs.Pieces.{State, start, mostHeld, answerTo, nextLine, hold, run, nothingLeft, ending, taken, feedAll}
+use Rattle.partial_line.specs.Calls.{State, start, mostHeld, hold, nothingLeft}
+use Rattle.frames.specs.Calls.{answerTo, nextLine, run, ending, taken, feedAll}
 use Rattle.frames.proofs.ClipLaws.{clip-append, answer-clip, next-clip}
 use Rattle.frames.proofs.PieceLaws.{run-newline, run-byte, run-append-state, run-append-output}
 

@@ -6,12 +6,13 @@ ghost use Prim.Native.Nat.{ℕ, _≤_, _<_};
 ghost use lib.Dec.{leb};
 ghost use lib.ListN.{length, take};
 ghost use lib.Seq.{sets};
-ghost use Rattle.lines.specs.Line.{longestLine};
-ghost use Rattle.frames.specs.Pieces.{stateOf, run, taken, ending};
-use frames::Partial;
+ghost use Rattle.lines.specs.Calls.{longestLine};
+ghost use Rattle.partial_line.specs.Calls.{stateOf};
+ghost use Rattle.frames.specs.Calls.{run, taken, ending};
 use libc::EINTR;
 use libc::STDIN_FILENO;
 use libc::STDOUT_FILENO;
+use partial_line::Partial;
 
 // What a turn found: more may come, the input ended, or the program stops.
 enum Next {
@@ -122,9 +123,9 @@ fn end(s: Partial, out: &mut [u8])
 // Turns until the input ends or the program stops; after a bad first line nothing more is read. A loop has to end and nothing says that the input
 // does, so turns are counted down from a number that no run uses up.
 fn list_all(input: &mut [u8], out: &mut [u8]) {
-    let mut state = frames::start();
+    let mut state = partial_line::start();
     let mut turns = u64::MAX;
-    while turns > 0 && !frames::stopped(state) {
+    while turns > 0 && !partial_line::stopped(state) {
         let t = read_once(state, input, out);
         let now = t.state;
         state = now;

@@ -1,5 +1,6 @@
 -- The first line has its own answer. Assumes nothing.
-use Rattle.frames.specs.Pieces.{stateOf, answerTo}
+use Rattle.partial_line.specs.Calls.{stateOf}
+use Rattle.frames.specs.Calls.{answerTo}
 use borrow.Author.Needs.{needs}
 use Rattle.frames.proofs.answer_line.Statement.{statement}
 use Rattle.frames.proofs.answer_line.Tie as tie

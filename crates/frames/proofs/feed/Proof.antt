@@ -4,8 +4,8 @@ use Prim.Native.Nat.{_-_}
 use native.Mathlib.Omega.{arith}
 use borrow.Author.Tests.{leb-true}
 use lib.ListN.{length, drop, length-drop}
-use Rattle.lines.specs.Line.{longestLine}
-use Rattle.frames.specs.Pieces.{stateOf}
+use Rattle.lines.specs.Calls.{longestLine}
+use Rattle.partial_line.specs.Calls.{stateOf}
 use Rattle.frames.proofs.PieceLaws.{Going, going-start, going-line, going-full, going-done, line-some, line-within}
 use Rattle.frames.proofs.FitLaws.{going-fits}
 use borrow.Author.Needs.{needs}

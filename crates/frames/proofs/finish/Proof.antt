@@ -3,10 +3,10 @@ use mathlib.Core.Path.{sym, _∙_}
 use mathlib.Core.Bool.{false}
 use native.Mathlib.Omega.{arith}
 use borrow.Author.Tests.{le-leb, lt-leb}
-use Rattle.frames.specs.Pieces.{stateOf}
+use Rattle.partial_line.specs.Calls.{stateOf}
 use Rattle.lines.proofs.PutLaws.{put-none}
 use Rattle.frames.proofs.FitLaws.{answer-length}
-use Rattle.lines.specs.Line.{longestLine}
+use Rattle.lines.specs.Calls.{longestLine}
 use borrow.Author.Needs.{needs}
 use Rattle.frames.proofs.finish.Statement.{statement}
 use Rattle.frames.proofs.finish.Tie as tie

@@ -5,7 +5,8 @@ use Prim.Native.Nat.{ℕ, _+_, _-_, _≤_}
 use native.Mathlib.Omega.{arith}
 use lib.ListN.{length, take, drop, length-take, length-drop}
 use lib.Seq.{take-add, take-all}
-use Rattle.frames.specs.Pieces.{State, stateOf, run, taken}
+use Rattle.partial_line.specs.Calls.{State, stateOf}
+use Rattle.frames.specs.Calls.{run, taken}
 use Rattle.frames.proofs.PieceLaws.{run-append-state}
 use borrow.Author.Needs.{needs}
 use Rattle.listing.proofs.list_piece.Statement.{statement}
