@@ -1,11 +1,11 @@
--- The listing piece by piece: what a piece of the input and its end give, and the state after them. It stands in the contracts of `frames`; `claims.Listing` ties it
--- to document 01's *listing*.
+-- The listing piece by piece: what a piece of the input and its end give, and the state after them. It stands in the contracts of `frames`;
+-- `claims.Listing` ties it to document 01's *listing*.
 use mathlib.Core.Path.{_≡_}
 use mathlib.Core.Bool.{Bool, true, false, cond}
 use mathlib.Core.List.{List, [], _∷_, _++_}
 use Prim.Native.Nat.{ℕ, suc, _-_}
 use lib.Dec.{eqb, leb}
-use lib.ListN.{length}
+use lib.ListN.{length, take}
 use Rattle.lines.specs.Line.{newline, Line}
 use Rattle.lines.specs.Calls.{firstLine, firstParameters, laterLine, longestLine, Put}
 use Rattle.partial_line.specs.Calls.{State, hold, nothingLeft}
@@ -63,10 +63,13 @@ abbrev pub beforeNewline : List ℕ → ℕ
 beforeNewline [] = 0
 beforeNewline (b ∷ bs) = cond (eqb b newline) 0 (suc (beforeNewline bs))
 
--- how many bytes the first line has, with its newline
+-- how many bytes the first of some lines has, with its newline; and that line
 abbrev pub lineLength : List ℕ → ℕ
 lineLength [] = 0
 lineLength (b ∷ bs) = cond (eqb b newline) 1 (suc (lineLength bs))
+
+abbrev pub leadingLine : List ℕ → List ℕ
+leadingLine bs = take (lineLength bs) bs
 
 -- so many bytes were taken, and their output stands from place `at` on
 pub record Fed (s : State) (bytes : List ℕ) (before after : List ℕ) (at next : ℕ) (t : State) : Type 0 where

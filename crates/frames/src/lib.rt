@@ -7,7 +7,7 @@ ghost use mathlib.Core.Bool.{cond};
 ghost use lib.Dec.{leb};
 ghost use Rattle.lines.specs.Calls.{longestLine, Put};
 ghost use Rattle.partial_line.specs.Calls.{stateOf};
-ghost use Rattle.frames.specs.Calls.{answerTo, nextLine, beforeNewline, lineLength, taken, ending, Fed};
+ghost use Rattle.frames.specs.Calls.{answerTo, nextLine, beforeNewline, lineLength, leadingLine, taken, ending, Fed};
 use lines::LONGEST_LINE;
 use partial_line::Partial;
 
@@ -78,7 +78,7 @@ fn newline_at(piece: &[u8], from: usize) -> usize
 // The rest of a line, or of the piece if that ends before the line does.
 fn feed_line(s: Partial, piece: &[u8], from: usize, out: &mut [u8], at: usize) -> Taken
     requires { ⌜ (from < length (now piece)) × (at + longestLine ≤ length (now out)) ⌝ }
-    ensures { λ r. ⌜ Fed (stateOf s) (take (lineLength (drop from (now (piece .entry)))) (drop from (now (piece .entry)))) (now (out .entry)) (now (out .exit)) at (r .made) (stateOf (r .state))
+    ensures { λ r. ⌜ Fed (stateOf s) (leadingLine (drop from (now (piece .entry)))) (now (out .entry)) (now (out .exit)) at (r .made) (stateOf (r .state))
         × (r .used ≡ from + lineLength (drop from (now (piece .entry)))) ⌝ }
 {
     let end = newline_at(piece, from);

@@ -1,5 +1,5 @@
--- The state of the listing between two pieces of its input. It stands in the contracts of this crate and of `frames`; `claims.Listing` ties it to document 01's
--- *listing*.
+-- The state of the listing between two pieces of its input. It stands in the contracts of this crate and of `frames`; `claims.Listing` ties it to
+-- document 01's *listing*.
 use mathlib.Core.Bool.{Bool, false, not, _&&_}
 use mathlib.Core.List.{List, [], _++_}
 use Prim.Native.Nat.{ℕ, _+_, _*_}
