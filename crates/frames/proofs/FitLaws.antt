@@ -7,13 +7,14 @@ use native.Mathlib.Decide.{ℕ-discrete}
 use native.Mathlib.Omega.{arith}
 use borrow.Author.Tests.{eqb-true, eq-eqb, ne-eqb, leb-true, le-leb}
 use lib.Dec.{eqb, leb}
-use lib.ListN.{length, take, drop, replicate, length-append}
+use lib.ListN.{length, take, drop, length-append}
 use Rattle.params.specs.declared.Params.{Params}
 use Rattle.params.specs.Width.{wordCount, widestBytes}
 use Rattle.params.specs.Rows.{first, parameterRows}
 use Rattle.slots.specs.Outcome.{Stored}
 use Rattle.params.proofs.RowLaws.{good}
-use Rattle.lines.specs.Line.{newline, Line, wellFormed, firstAnswer, answerLine, illFormed, bytesOf, blockWords, slotBytes, storedLine, lineStore, blockDigits, blockLine}
+use Rattle.lines.specs.Line.{newline, Line, wellFormed, firstAnswer, answerLine, illFormed}
+use Rattle.lines.specs.Line.{bytesOf, blockWords, slotBytes, storedLine, lineStore, blockDigits, blockLine}
 use Rattle.lines.specs.Calls.{longestLine, goodParameters, firstLine, laterLine}
 use Rattle.partial_line.specs.Calls.{State, hold, nothingLeft}
 use Rattle.frames.specs.Calls.{lineOf, answerTo, nextLine, run, ending, taken}

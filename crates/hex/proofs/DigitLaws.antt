@@ -3,7 +3,8 @@ use mathlib.Core.Path.{_≡_, refl, sym, ap, _∙_}
 use mathlib.Core.Bool.{true, false, _&&_, and-eq-true-iff}
 use mathlib.Core.List.{List, flatMap}
 use Prim.Native.Nat.{ℕ, zero, suc, _+_, _-_, _*_, _/_, _%_, _^_, _≤_, _<_}
-use native.Mathlib.Nat.{pow-suc, suc-mul, mul-comm, mul-assoc, mul-add, add-mul, add-assoc, lt-of-lt-of-le, mul-le-mul-left, pow-le-pow-right, one-le-pow, mod-lt, mod-one, mod-add-div, mod-eq-of-lt, add-mul-mod-self-left}
+use native.Mathlib.Nat.{pow-suc, suc-mul, mul-comm, mul-assoc, mul-add, add-mul, add-assoc, lt-of-lt-of-le, mul-le-mul-left, pow-le-pow-right}
+use native.Mathlib.Nat.{one-le-pow, mod-lt, mod-one, mod-add-div, mod-eq-of-lt, add-mul-mod-self-left}
 use native.Mathlib.Decide.{decLt}
 use native.Mathlib.Omega.{arith}
 use borrow.Author.Tests.{leb-true, lt-ltb, le-ltb, le-leb, lt-leb}
@@ -89,7 +90,8 @@ digit-back d h = go (decLt d 10)
     go : Dec (d < 10) → digitValue (hexDigit d) ≡ d
     go (yes k) = rw (lt-ltb d 10 k, le-leb 48 (48 + d) (omega arith), le-leb (48 + d) 57 (omega arith)) (omega arith)
     go (no k) =
-        rw (le-ltb d 10 (omega arith), le-leb 48 (87 + d) (omega arith), lt-leb (87 + d) 57 (omega arith), le-leb 97 (87 + d) (omega arith), le-leb (87 + d) 102 (omega arith))
+        let b = 87 + d in
+        rw (le-ltb d 10 (omega arith), le-leb 48 b (omega arith), lt-leb b 57 (omega arith), le-leb 97 b (omega arith), le-leb b 102 (omega arith))
         (omega arith)
 
 -- a remainder by sixteen times as much
@@ -109,7 +111,9 @@ mod-sixteen n q h =
 regroup : (v d q r : ℕ) → (v * 16 + d) * q + r ≡ v * (q * 16) + (r + q * d)
 regroup v d q r =
     let e : (v * 16 + d) * q ≡ v * (q * 16) + q * d =
-    add-mul (v * 16) d q ∙ ap (λ (x : ℕ). x + d * q) (mul-assoc v 16 q ∙ ap (λ (x : ℕ). v * x) (mul-comm 16 q)) ∙ ap (λ (x : ℕ). v * (q * 16) + x) (mul-comm d q) in
+    add-mul (v * 16) d q
+    ∙ ap (λ (x : ℕ). x + d * q) (mul-assoc v 16 q ∙ ap (λ (x : ℕ). v * x) (mul-comm 16 q))
+    ∙ ap (λ (x : ℕ). v * (q * 16) + x) (mul-comm d q) in
     rw e (omega arith)
 
 value-after : (k v n : ℕ) → valueAfter v (hexDigits k n) ≡ v * 16 ^ k + n % 16 ^ k

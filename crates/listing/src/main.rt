@@ -42,7 +42,8 @@ fn write_out(bytes: &[u8]) -> bool {
 
 // Some bytes of a piece go in, and what they give goes out. No byte is taken where the output failed.
 fn list_part(s: Partial, piece: &[u8], out: &mut [u8]) -> Part
-    ensures { λ r. ⌜ (stateOf (r .state) ≡ run (stateOf s) (take (taken (stateOf s) (now (piece .entry)) (length (now (out .entry)))) (now (piece .entry))) .state)
+    ensures { λ r. ⌜ (stateOf (r .state)
+        ≡ run (stateOf s) (take (taken (stateOf s) (now (piece .entry)) (length (now (out .entry)))) (now (piece .entry))) .state)
         × (0 < r .used → r .used ≡ taken (stateOf s) (now (piece .entry)) (length (now (out .entry)))) × (r .used ≤ length (now (piece .entry))) ⌝ }
 {
     let t = frames::feed(s, piece, out);

@@ -72,7 +72,8 @@ fn copy_in(line: &mut [u8], n: usize, piece: &[u8], from: usize, m: usize)
 // The bytes of a piece from one place to another join those held, as many as there is room for; how many are held then.
 fn join(line: &mut [u8], len: usize, piece: &[u8], from: usize, to: usize) -> usize
     requires { ⌜ (from ≤ to) × (to ≤ length (now piece)) ⌝ }
-    ensures { λ r. ⌜ take r (now (line .exit)) ≡ take (length (now (line .entry))) (take len (now (line .entry)) ++ take (to - from) (drop from (now (piece .entry)))) ⌝ }
+    ensures { λ r. ⌜ take r (now (line .exit))
+        ≡ take (length (now (line .entry))) (take len (now (line .entry)) ++ take (to - from) (drop from (now (piece .entry)))) ⌝ }
 {
     let n = bits::least(len, line.len());
     let m = bits::least(to - from, line.len() - n);

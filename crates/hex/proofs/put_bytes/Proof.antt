@@ -13,7 +13,9 @@ use Rattle.hex.proofs.put_bytes.Statement.{statement}
 use Rattle.hex.proofs.put_bytes.Tie as tie
 
 abbrev Inv-loop : tie.InvT-loop
-Inv-loop out₀ at bytes i₀ out i = (sets out (at + 2 * i) (flatMap (hexDigits 2) (drop i bytes)) ≡ sets out₀ at (flatMap (hexDigits 2) bytes)) × (i ≤ length bytes) × (length out ≡ length out₀)
+Inv-loop out₀ at bytes i₀ out i =
+    (sets out (at + 2 * i) (flatMap (hexDigits 2) (drop i bytes)) ≡ sets out₀ at (flatMap (hexDigits 2) bytes))
+    × (i ≤ length bytes) × (length out ≡ length out₀)
 
 abbrev μ-loop : tie.MeasureT-loop
 μ-loop out₀ at bytes i₀ out i = length bytes - i

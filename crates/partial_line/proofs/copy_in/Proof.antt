@@ -40,8 +40,9 @@ loop-again : tie.Need-loop-again Inv-loop μ-loop
 loop-again c =
     let l = c .before .before .loop in
     let a = c .before .before .before .args in
-    let d = drop (a .from) (a .piece .now) in (
-      rw (add-one, l .inv .0, ← getD-drop (a .from) (a .piece .now) (l .i) 0, paste-suc (a .line .now) (a .n) d (l .i) 0 (omega arith) (simp length-drop (omega arith))),
+    let d = drop (a .from) (a .piece .now) in
+    let more = paste-suc (a .line .now) (a .n) d (l .i) 0 (omega arith) (simp length-drop (omega arith)) in (
+      rw (add-one, l .inv .0, ← getD-drop (a .from) (a .piece .now) (l .i) 0, more),
       omega arith,
       simp length-set (l .inv .2),
     )
