@@ -8,6 +8,8 @@ use lib.Seq.{take-add, take-all}
 use Rattle.partial_line.specs.Calls.{State, stateOf}
 use Rattle.frames.specs.Calls.{run, taken}
 use Rattle.frames.proofs.PieceLaws.{run-append-state}
+use Rattle.listing.specs.declared.Next.{Next}
+use Rattle.listing.specs.declared.Next.the-variants.{More, Ended, Stop}
 use borrow.Author.Needs.{needs}
 use Rattle.listing.proofs.list_piece.Statement.{statement}
 use Rattle.listing.proofs.list_piece.Tie as tie
@@ -25,6 +27,16 @@ run-on : (piece : List ℕ) (s t u : State) (at k used : ℕ) → t ≡ run s (t
 run-on piece s t u at k used e f q =
     let r = take-all (length piece - at) (drop at piece) (simp length-drop (omega arith)) in
     rw (q, take-add at k piece, run-append-state s (take at piece) (take k (drop at piece)), ← e, ← r) f
+
+-- which variants differ
+stop-more : _≡_ {A = Next} Stop More → ⊥
+stop-more e = let z : _≡_ {A = ℕ} 0 1 = cc in omega arith
+
+stop-ended : _≡_ {A = Next} Stop Ended → ⊥
+stop-ended e = let z : _≡_ {A = ℕ} 0 1 = cc in omega arith
+
+more-ended : _≡_ {A = Next} More Ended → ⊥
+more-ended e = let z : _≡_ {A = ℕ} 0 1 = cc in omega arith
 
 loop-holds : tie.Need-loop-holds Inv-loop μ-loop
 loop-holds c = (omega arith, refl, refl)
@@ -45,8 +57,7 @@ same-length : tie.Need-same-length Inv-loop μ-loop
 same-length c = search needs
 
 returns : tie.Need-returns Inv-loop μ-loop
-returns c =
-    (λ e. absurd (let z : _≡_ {A = ℕ} 0 1 = cc in omega arith), λ e. let z : _≡_ {A = ℕ} 0 1 = cc in omega arith)
+returns c = (λ e. absurd (stop-more e), stop-ended)
 
 add-at : tie.Need-add-at Inv-loop μ-loop
 add-at c = omega arith
@@ -76,7 +87,7 @@ returns-2 : tie.Need-returns-2 Inv-loop μ-loop
 returns-2 c =
     let l = c .before .loop in
     let all = take-all (l .at) (c .before .before .before .before .args .piece .now) (c .loop-test .left) in
-    (λ e. rw all at (l .inv .2), λ e. let z : _≡_ {A = ℕ} 0 1 = cc in omega arith)
+    (λ e. rw all at (l .inv .2), more-ended)
 
 pub list-piece-spec : {M : Type 1} → statement M
 list-piece-spec =
