@@ -56,18 +56,18 @@ run-append-output s (b ∷ xs) ys = go (ℕ-discrete b newline) (λ t. run-appen
 -- ---- a line
 
 -- what the bytes before a newline and the newline give
-abbrev pub ended : State → List ℕ → Ran
-ended s bs =
+abbrev pub ranLine : State → List ℕ → Ran
+ranLine s bs =
     let t = hold s (take (beforeNewline bs) bs) in
     record { state = nextLine t; output = answerTo t true }
 
-pub line-ended : (s : State) (bs : List ℕ) → beforeNewline bs < length bs → (lineLength bs ≡ beforeNewline bs + 1) × (run s (leadingLine bs) ≡ ended s bs)
+pub line-ended : (s : State) (bs : List ℕ) → beforeNewline bs < length bs → (lineLength bs ≡ beforeNewline bs + 1) × (run s (leadingLine bs) ≡ ranLine s bs)
 line-ended s [] h = absurd (omega arith)
 line-ended s (b ∷ bs) h = go (ℕ-discrete b newline) h (line-ended (hold s (b ∷ [])) bs)
   where
     go : Dec (b ≡ newline) → beforeNewline (b ∷ bs) < suc (length bs)
-        → (beforeNewline bs < length bs → (lineLength bs ≡ beforeNewline bs + 1) × (run (hold s (b ∷ [])) (leadingLine bs) ≡ ended (hold s (b ∷ [])) bs))
-        → (lineLength (b ∷ bs) ≡ beforeNewline (b ∷ bs) + 1) × (run s (leadingLine (b ∷ bs)) ≡ ended s (b ∷ bs))
+        → (beforeNewline bs < length bs → (lineLength bs ≡ beforeNewline bs + 1) × (run (hold s (b ∷ [])) (leadingLine bs) ≡ ranLine (hold s (b ∷ [])) bs))
+        → (lineLength (b ∷ bs) ≡ beforeNewline (b ∷ bs) + 1) × (run s (leadingLine (b ∷ bs)) ≡ ranLine s (b ∷ bs))
     go (yes e) h ih =
         let q = eq-eqb b newline e in
         (rw q, rw q (rw (run-newline s b [] e, append-nil (answerTo s true), answer-hold s true, next-hold s)))
@@ -76,15 +76,16 @@ line-ended s (b ∷ bs) h = go (ℕ-discrete b newline) h (line-ended (hold s (b
         let r = ih (omega (arith, rw q at h)) in
         (rw q (omega (arith, r .0)), rw q (rw (run-byte s b (leadingLine bs) e) (rw hold-hold at (r .1))))
 
--- the bytes of a line that goes on
+-- a line that goes on does not begin with a newline
 not-first : (b : ℕ) (bs : List ℕ) → length (b ∷ bs) ≤ beforeNewline (b ∷ bs) → b ≡ newline → ⊥
 not-first b bs h e = omega (arith, rw (eq-eqb b newline e) at h)
 
-abbrev pub unended : State → List ℕ → Ran
-unended s bs = record { state = hold s (take (beforeNewline bs) bs); output = [] }
+-- what the bytes of a line that goes on give
+abbrev pub ranPart : State → List ℕ → Ran
+ranPart s bs = record { state = hold s (take (beforeNewline bs) bs); output = [] }
 
 line-open : (s : State) (b : ℕ) (bs : List ℕ) → length (b ∷ bs) ≤ beforeNewline (b ∷ bs)
-    → (lineLength (b ∷ bs) ≡ beforeNewline (b ∷ bs)) × (run s (leadingLine (b ∷ bs)) ≡ unended s (b ∷ bs))
+    → (lineLength (b ∷ bs) ≡ beforeNewline (b ∷ bs)) × (run s (leadingLine (b ∷ bs)) ≡ ranPart s (b ∷ bs))
 line-open s b [] h =
     let e = not-first b [] h in
     let q = ne-eqb b newline e in
@@ -96,7 +97,7 @@ line-open s b (d ∷ ds) h =
     (rw q (ap suc (r .0)), rw q (run-byte s b (leadingLine (d ∷ ds)) e ∙ rw hold-hold at (r .1)))
 
 pub line-rest : (s : State) (bs : List ℕ) → 0 < length bs → length bs ≤ beforeNewline bs
-    → (lineLength bs ≡ beforeNewline bs) × (run s (leadingLine bs) ≡ unended s bs)
+    → (lineLength bs ≡ beforeNewline bs) × (run s (leadingLine bs) ≡ ranPart s bs)
 line-rest s [] h k = absurd (omega arith)
 line-rest s (b ∷ bs) h k = line-open s b bs k
 
@@ -123,19 +124,19 @@ taken-none s [] room e = refl
 taken-none s (b ∷ bs) room e = rw e
 
 -- how many bytes are taken after the first line
-abbrev later : State → List ℕ → ℕ → ℕ
-later s bs room =
+abbrev takenLater : State → List ℕ → ℕ → ℕ
+takenLater s bs room =
     let r = run s (leadingLine bs) in
     taken (r .state) (drop (lineLength bs) bs) (room - length (r .output))
 
 -- with room for a line, a line is taken
-taken-line : (s : State) (bs : List ℕ) (room : ℕ) → leb longestLine room ≡ true → taken s bs room ≡ lineLength bs + later s bs room
+taken-line : (s : State) (bs : List ℕ) (room : ℕ) → leb longestLine room ≡ true → taken s bs room ≡ lineLength bs + takenLater s bs room
 taken-line s [] room e = refl
 taken-line s (b ∷ bs) room e = go (ℕ-discrete b newline) (taken-line (hold s (b ∷ [])) bs room e)
   where
     go : Dec (b ≡ newline)
-        → taken (hold s (b ∷ [])) bs room ≡ lineLength bs + later (hold s (b ∷ [])) bs room
-        → taken s (b ∷ bs) room ≡ lineLength (b ∷ bs) + later s (b ∷ bs) room
+        → taken (hold s (b ∷ [])) bs room ≡ lineLength bs + takenLater (hold s (b ∷ [])) bs room
+        → taken s (b ∷ bs) room ≡ lineLength (b ∷ bs) + takenLater s (b ∷ bs) room
     go (yes q) ih = let z = eq-eqb b newline q in rw (e, z) (rw (run-newline s b [] q, append-nil (answerTo s true)) (omega arith))
     go (no q) ih = let z = ne-eqb b newline q in rw (e, z, ih) (rw (run-byte s b (leadingLine bs) q) (omega arith))
 

@@ -19,8 +19,8 @@ use Rattle.frames.proofs.ClipLaws.{clip-append, answer-clip, next-clip}
 use Rattle.frames.proofs.PieceLaws.{run-newline, run-byte, run-append-state, run-append-output}
 
 -- a state, and all that an input gives from there on
-abbrev state : Bool → Params → List ℕ → State
-state started p held = record { started = started; params = p; held = held }
+abbrev stateWith : Bool → Params → List ℕ → State
+stateWith started p held = record { started = started; params = p; held = held }
 
 abbrev whole : State → List ℕ → List ℕ
 whole s input = run s input .output ++ ending (run s input .state)
@@ -32,7 +32,7 @@ remaining false p ls = listLines ls
 
 -- what is left is a last line, or nothing
 last-line : (started : Bool) (p : Params) (full : List ℕ)
-    → ending (state started p (take mostHeld full)) ≡ remaining started p (lastLine full)
+    → ending (stateWith started p (take mostHeld full)) ≡ remaining started p (lastLine full)
 unfolding nothingLeft answerTo firstAnswer wellFormed flatMap remaining
 last-line true p [] = go (goodParameters p)
   where
@@ -71,7 +71,7 @@ first-then l ls = go (wellFormed firstDigits l)
 
 -- a line, then the rest
 line-then : (started : Bool) (p : Params) (full : List ℕ) (ls : List Line)
-    → answerTo (state started p full) true ++ remaining true (nextLine (state started p full) .params) ls
+    → answerTo (stateWith started p full) true ++ remaining true (nextLine (stateWith started p full) .params) ls
     ≡ remaining started p (record { bytes = full; ended = true } ∷ ls)
 unfolding answerTo nextLine remaining flatMap
 line-then true p full ls = go (goodParameters p)
@@ -84,17 +84,17 @@ line-then false p full ls = first-then (record { bytes = full; ended = true }) l
 
 -- the bytes that are left, after a line of which `full` has come and what is held of it is held
 rest : (input : List ℕ) (started : Bool) (p : Params) (full : List ℕ)
-    → whole (state started p (take mostHeld full)) input ≡ remaining started p (linesAfter full input)
+    → whole (stateWith started p (take mostHeld full)) input ≡ remaining started p (linesAfter full input)
 unfolding hold nextLine
 rest [] started p full = last-line started p full
 rest (b ∷ bs) started p full = go (ℕ-discrete b newline) (λ q. rest bs true q []) (rest bs started p (full ++ (b ∷ [])))
   where
-    go : Dec (b ≡ newline) → ((q : Params) → whole (state true q []) bs ≡ remaining true q (linesAfter [] bs))
-        → whole (state started p (take mostHeld (full ++ (b ∷ [])))) bs ≡ remaining started p (linesAfter (full ++ (b ∷ [])) bs)
-        → whole (state started p (take mostHeld full)) (b ∷ bs) ≡ remaining started p (linesAfter full (b ∷ bs))
+    go : Dec (b ≡ newline) → ((q : Params) → whole (stateWith true q []) bs ≡ remaining true q (linesAfter [] bs))
+        → whole (stateWith started p (take mostHeld (full ++ (b ∷ [])))) bs ≡ remaining started p (linesAfter (full ++ (b ∷ [])) bs)
+        → whole (stateWith started p (take mostHeld full)) (b ∷ bs) ≡ remaining started p (linesAfter full (b ∷ bs))
     go (yes e) ends goes =
-        let s = state started p (take mostHeld full) in
-        let t = state started p full in
+        let s = stateWith started p (take mostHeld full) in
+        let t = stateWith started p full in
         let n = nextLine s in
         rw (run-newline s b bs e, eq-eqb b newline e)
         (append-assoc (answerTo s true) (run n bs .output) (ending (run n bs .state))
@@ -103,7 +103,7 @@ rest (b ∷ bs) started p full = go (ℕ-discrete b newline) (λ q. rest bs true
         ∙ ap (λ (x : State). answerTo t true ++ remaining true (x .params) (linesAfter [] bs)) (next-clip started p full)
         ∙ line-then started p full (linesAfter [] bs))
     go (no e) ends goes =
-        let s = state started p (take mostHeld full) in
+        let s = stateWith started p (take mostHeld full) in
         rw (run-byte s b bs e, ne-eqb b newline e, clip-append mostHeld full (b ∷ [])) goes
 
 -- ---- the laws that a program goes by

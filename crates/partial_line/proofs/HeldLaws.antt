@@ -7,8 +7,8 @@ use native.Mathlib.Omega.{arith}
 use lib.ListN.{length, take, drop, length-take, length-drop}
 use lib.Seq.{paste, take-all, take-take, length-take-le, take-paste, take-append-add}
 
-clipped : (line : List ℕ) (len n : ℕ) → n ≡ min len (length line) → take len line ≡ take n line
-clipped line len n e = go (decLe len (length line))
+take-within : (line : List ℕ) (len n : ℕ) → n ≡ min len (length line) → take len line ≡ take n line
+take-within line len n e = go (decLe len (length line))
   where
     go : Dec (len ≤ length line) → take len line ≡ take n line
     go (yes h) = let q : n ≡ len = omega arith in rw q
@@ -30,6 +30,6 @@ held-more line piece bytes len n m from k en em h e =
     let d = drop from piece in
     let x : length (take n line) ≡ n = length-take-le n line (omega arith) in
     let w : length line ≡ length (take n line) + (length line - n) = omega arith in
-    rw (e, take-paste line n d m (omega arith) (simp length-drop (omega arith)), clipped line len n en)
+    rw (e, take-paste line n d m (omega arith) (simp length-drop (omega arith)), take-within line len n en)
     (ap (λ (y : List ℕ). take n line ++ y) (sym (take-min d (length line - n) k m em))
     ∙ sym (ap (λ (j : ℕ). take j (take n line ++ take k d)) w ∙ take-append-add (take n line) (take k d) (length line - n)))
