@@ -28,7 +28,7 @@ use Rattle.bits.specs.Stream.{write}
 use Rattle.params.specs.Width.{slotsIn}
 use Rattle.slot_code.specs.Rules.{codeOf, wordsOf}
 use Rattle.slots.specs.Outcome.{countOutcome, storeOutcome, readOutcome, slotOf}
-use Rattle.lines.specs.Hex.{hexDigit, digitValue}
+use Rattle.hex.specs.Digits.{hexDigit, digitValue}
 use Rattle.lines.specs.Line.{wellFormed, parametersOf, firstAnswer, answerLine, slotBytes, storedLine, blockLine}
 use Rattle.claims.specs.Table.{P12, Paper, Ours, Table}
 

@@ -3,7 +3,8 @@ use mathlib.Core.Path.{_≡_}
 use mathlib.Core.List.{List, _++_, flatten}
 use Prim.Native.Nat.{ℕ}
 use Rattle.frames.specs.Listing.{listing}
-use Rattle.frames.specs.Pieces.{start, feedAll, ending}
+use Rattle.partial_line.specs.Calls.{start}
+use Rattle.frames.specs.Calls.{feedAll, ending}
 use Rattle.frames.proofs.WholeLaws.{listed-in-pieces}
 
 pub listing-in-pieces : (pieces : List (List ℕ)) → feedAll start pieces .output ++ ending (feedAll start pieces .state) ≡ listing (flatten pieces)

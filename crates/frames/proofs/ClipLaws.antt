@@ -7,15 +7,17 @@ use native.Mathlib.Decide.{decLe}
 use native.Mathlib.Omega.{arith}
 use borrow.Author.Tests.{ne-eqb, eqb-true}
 use lib.Dec.{eqb}
-use lib.ListN.{length, take, replicate}
+use lib.ListN.{length, take}
 use lib.Seq.{take-all, length-take-le}
 use Rattle.params.specs.declared.Params.{Params}
 use Rattle.params.specs.Width.{wordCount}
 use Rattle.params.specs.Rows.{first, parameterRows}
-use Rattle.slots.specs.Outcome.{storeOutcome}
 use Rattle.params.proofs.RowLaws.{good}
-use Rattle.lines.specs.Line.{wellFormed, firstDigits, parametersOf, firstAnswer, answerLine, illFormed, wordsOf, slotBytes, storedLine, blockDigits, blockLine, goodParameters, firstLine, firstParameters, noParameters, laterLine}
-use Rattle.frames.specs.Pieces.{State, mostHeld, answerTo, nextLine, hold}
+use Rattle.lines.specs.Line.{wellFormed, firstDigits, parametersOf, firstAnswer, answerLine, illFormed}
+use Rattle.lines.specs.Line.{blockWords, storedLine, lineStore, blockDigits, blockLine}
+use Rattle.lines.specs.Calls.{goodParameters, firstLine, firstParameters, noParameters, laterLine}
+use Rattle.partial_line.specs.Calls.{State, mostHeld, hold}
+use Rattle.frames.specs.Calls.{answerTo, nextLine}
 
 pub clip-append : (n : ℕ) (a b : List ℕ) → take n (take n a ++ b) ≡ take n (a ++ b)
 clip-append zero a b = refl
@@ -62,12 +64,13 @@ module _ (bytes : List ℕ) (ended : Bool) where
           → cond b (blockLine p (record { bytes = take mostHeld bytes; ended = ended })) [] ≡ cond b (blockLine p (record { bytes = bytes; ended = ended })) []
       go true e =
           let g = good p (eqb-true (first (parameterRows p)) 0 e) in
-          clipped (blockDigits p) (omega arith) (λ l. storedLine p (storeOutcome p (replicate (slotBytes p) 0) 0 (wordsOf (wordCount p) l))) illFormed bytes ended
+          clipped (blockDigits p) (omega arith) (λ l. storedLine p (lineStore p (blockWords (wordCount p) l))) illFormed bytes ended
       go false e = refl
 
 -- a state that holds a line whole, or what is held of it
 pub answer-clip : (started : Bool) (p : Params) (bytes : List ℕ) (ended : Bool)
-    → answerTo (record { started = started; params = p; held = take mostHeld bytes }) ended ≡ answerTo (record { started = started; params = p; held = bytes }) ended
+    → answerTo (record { started = started; params = p; held = take mostHeld bytes }) ended
+    ≡ answerTo (record { started = started; params = p; held = bytes }) ended
 unfolding answerTo
 answer-clip true p bytes ended = clip-later bytes ended p
 answer-clip false p bytes ended = clip-first bytes ended

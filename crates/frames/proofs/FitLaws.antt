@@ -7,14 +7,17 @@ use native.Mathlib.Decide.{ℕ-discrete}
 use native.Mathlib.Omega.{arith}
 use borrow.Author.Tests.{eqb-true, eq-eqb, ne-eqb, leb-true, le-leb}
 use lib.Dec.{eqb, leb}
-use lib.ListN.{length, take, drop, replicate, length-append}
+use lib.ListN.{length, take, drop, length-append}
 use Rattle.params.specs.declared.Params.{Params}
 use Rattle.params.specs.Width.{wordCount, widestBytes}
 use Rattle.params.specs.Rows.{first, parameterRows}
-use Rattle.slots.specs.Outcome.{Stored, storeOutcome}
+use Rattle.slots.specs.Outcome.{Stored}
 use Rattle.params.proofs.RowLaws.{good}
-use Rattle.lines.specs.Line.{newline, Line, wellFormed, firstAnswer, answerLine, illFormed, bytesOf, wordsOf, slotBytes, storedLine, blockDigits, blockLine, longestLine, goodParameters, firstLine, laterLine}
-use Rattle.frames.specs.Pieces.{State, lineOf, answerTo, nextLine, hold, run, nothingLeft, ending, taken}
+use Rattle.lines.specs.Line.{newline, Line, wellFormed, firstAnswer, answerLine, illFormed}
+use Rattle.lines.specs.Line.{bytesOf, blockWords, slotBytes, storedLine, lineStore, blockDigits, blockLine}
+use Rattle.lines.specs.Calls.{longestLine, goodParameters, firstLine, laterLine}
+use Rattle.partial_line.specs.Calls.{State, hold, nothingLeft}
+use Rattle.frames.specs.Calls.{lineOf, answerTo, nextLine, run, ending, taken}
 use Rattle.lines.proofs.PutLaws.{length-answer}
 use Rattle.frames.proofs.PieceLaws.{run-newline, run-byte, Going}
 
@@ -35,13 +38,12 @@ refusal-length answer = omega (arith, length-answer answer 0 [])
 
 block-length : (p : Params) (l : Line) → goodParameters p ≡ true → length (blockLine p l) ≤ longestLine
 unfolding blockLine slotBytes
-block-length p l e =
-    go (wellFormed (blockDigits p) l)
+block-length p l e = go (wellFormed (blockDigits p) l)
   where
-    go : (t : Bool) → length (cond t (storedLine p (storeOutcome p (replicate (slotBytes p) 0) 0 (wordsOf (wordCount p) (l .bytes)))) illFormed) ≤ longestLine
+    go : (t : Bool) → length (cond t (storedLine p (lineStore p (blockWords (wordCount p) (l .bytes)))) illFormed) ≤ longestLine
     go true =
         let g = good p (eqb-true (first (parameterRows p)) 0 e) in
-        stored-length p (storeOutcome p (replicate (slotBytes p) 0) 0 (wordsOf (wordCount p) (l .bytes))) (omega arith)
+        stored-length p (lineStore p (blockWords (wordCount p) (l .bytes))) (omega arith)
     go false = refusal-length 12
 
 pub answer-length : (s : State) (ended : Bool) → length (answerTo s ended) ≤ longestLine
@@ -70,14 +72,18 @@ ending-length s = go (nothingLeft s)
 -- the bytes taken give no more than there is room for
 pub taken-fits : (s : State) (piece : List ℕ) (room : ℕ) → length (run s (take (taken s piece room) piece) .output) ≤ room
 taken-fits s [] room = omega arith
-taken-fits s (b ∷ bs) room = go (leb longestLine room) refl (ℕ-discrete b newline) (taken-fits (nextLine s) bs (room - length (answerTo s true))) (taken-fits (hold s (b ∷ [])) bs room)
+taken-fits s (b ∷ bs) room =
+    go (leb longestLine room) refl (ℕ-discrete b newline) (taken-fits (nextLine s) bs left) (taken-fits (hold s (b ∷ [])) bs room)
   where
+    left : ℕ
+    left = room - length (answerTo s true)
+
     go : (t : Bool) → leb longestLine room ≡ t → Dec (b ≡ newline)
-        → length (run (nextLine s) (take (taken (nextLine s) bs (room - length (answerTo s true))) bs) .output) ≤ room - length (answerTo s true)
+        → length (run (nextLine s) (take (taken (nextLine s) bs left) bs) .output) ≤ left
         → length (run (hold s (b ∷ [])) (take (taken (hold s (b ∷ [])) bs room) bs) .output) ≤ room
         → length (run s (take (taken s (b ∷ bs) room) (b ∷ bs)) .output) ≤ room
     go true e (yes q) i j =
-        let k = taken (nextLine s) bs (room - length (answerTo s true)) in
+        let k = taken (nextLine s) bs left in
         rw (e, eq-eqb b newline q) (rw (run-newline s b (take k bs) q)
         (omega (arith, length-append (answerTo s true) (run (nextLine s) (take k bs) .output), answer-length s true, leb-true longestLine room e)))
     go true e (no q) i j = rw (e, ne-eqb b newline q) (rw (run-byte s b (take (taken (hold s (b ∷ [])) bs room) bs) q) j)
@@ -90,13 +96,16 @@ going-fits {s} {piece} {before} g u = omega (arith, g .fed .output .moved, rw (�
 -- with room for what they give and a longest line besides, all bytes of a piece are taken
 pub taken-all : (s : State) (piece : List ℕ) (room : ℕ) → length (run s piece .output) + longestLine ≤ room → taken s piece room ≡ length piece
 taken-all s [] room h = refl
-taken-all s (b ∷ bs) room h = go (ℕ-discrete b newline) (taken-all (nextLine s) bs (room - length (answerTo s true))) (taken-all (hold s (b ∷ [])) bs room)
+taken-all s (b ∷ bs) room h = go (ℕ-discrete b newline) (taken-all (nextLine s) bs left) (taken-all (hold s (b ∷ [])) bs room)
   where
+    left : ℕ
+    left = room - length (answerTo s true)
+
     e : leb longestLine room ≡ true
     e = le-leb longestLine room (omega arith)
 
     go : Dec (b ≡ newline)
-        → (length (run (nextLine s) bs .output) + longestLine ≤ room - length (answerTo s true) → taken (nextLine s) bs (room - length (answerTo s true)) ≡ length bs)
+        → (length (run (nextLine s) bs .output) + longestLine ≤ left → taken (nextLine s) bs left ≡ length bs)
         → (length (run (hold s (b ∷ [])) bs .output) + longestLine ≤ room → taken (hold s (b ∷ [])) bs room ≡ length bs)
         → taken s (b ∷ bs) room ≡ suc (length bs)
     go (yes q) i j =

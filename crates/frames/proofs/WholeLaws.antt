@@ -10,11 +10,20 @@ use lib.Dec.{eqb}
 use lib.ListN.{length, take}
 use Rattle.params.specs.declared.Params.{Params}
 use Rattle.params.specs.Rows.{first, parameterRows}
-use Rattle.lines.specs.Line.{newline, Line, wellFormed, firstDigits, parametersOf, firstAnswer, answerLine, blockLine, longestLine, goodParameters, noParameters, firstLine, firstParameters}
+use Rattle.lines.specs.Line.{newline, Line, wellFormed, firstDigits, parametersOf, firstAnswer, answerLine, blockLine}
+use Rattle.lines.specs.Calls.{longestLine, goodParameters, noParameters, firstLine, firstParameters}
 use Rattle.frames.specs.Listing.{lastLine, linesAfter, listLines, listing}
-use Rattle.frames.specs.Pieces.{State, start, mostHeld, answerTo, nextLine, hold, run, nothingLeft, ending, taken, feedAll}
+use Rattle.partial_line.specs.Calls.{State, start, mostHeld, hold, nothingLeft}
+use Rattle.frames.specs.Calls.{answerTo, nextLine, run, ending, taken, feedAll}
 use Rattle.frames.proofs.ClipLaws.{clip-append, answer-clip, next-clip}
 use Rattle.frames.proofs.PieceLaws.{run-newline, run-byte, run-append-state, run-append-output}
+
+-- a state, and all that an input gives from there on
+abbrev stateWith : Bool → Params → List ℕ → State
+stateWith started p held = record { started = started; params = p; held = held }
+
+abbrev whole : State → List ℕ → List ℕ
+whole s input = run s input .output ++ ending (run s input .state)
 
 -- the listing of the lines that are left, after the first line and before it
 remaining : Bool → Params → List Line → List ℕ
@@ -23,7 +32,7 @@ remaining false p ls = listLines ls
 
 -- what is left is a last line, or nothing
 last-line : (started : Bool) (p : Params) (full : List ℕ)
-    → ending (record { started = started; params = p; held = take mostHeld full }) ≡ remaining started p (lastLine full)
+    → ending (stateWith started p (take mostHeld full)) ≡ remaining started p (lastLine full)
 unfolding nothingLeft answerTo firstAnswer wellFormed flatMap remaining
 last-line true p [] = go (goodParameters p)
   where
@@ -33,7 +42,10 @@ last-line true p [] = go (goodParameters p)
 last-line false p [] = refl
 last-line true p (b ∷ bs) = rw (ne-eqb (length (take mostHeld (b ∷ bs))) 0 (λ e. omega arith)) (answer-clip true p (b ∷ bs) false ∙ go (goodParameters p))
   where
-    go : (t : Bool) → cond t (blockLine p (record { bytes = b ∷ bs; ended = false })) [] ≡ cond t (blockLine p (record { bytes = b ∷ bs; ended = false }) ++ []) []
+    l : Line
+    l = record { bytes = b ∷ bs; ended = false }
+
+    go : (t : Bool) → cond t (blockLine p l) [] ≡ cond t (blockLine p l ++ []) []
     go true = sym (append-nil _)
     go false = refl
 last-line false p (b ∷ bs) = answer-clip false p (b ∷ bs) false
@@ -59,7 +71,7 @@ first-then l ls = go (wellFormed firstDigits l)
 
 -- a line, then the rest
 line-then : (started : Bool) (p : Params) (full : List ℕ) (ls : List Line)
-    → answerTo (record { started = started; params = p; held = full }) true ++ remaining true (nextLine (record { started = started; params = p; held = full }) .params) ls
+    → answerTo (stateWith started p full) true ++ remaining true (nextLine (stateWith started p full) .params) ls
     ≡ remaining started p (record { bytes = full; ended = true } ∷ ls)
 unfolding answerTo nextLine remaining flatMap
 line-then true p full ls = go (goodParameters p)
@@ -72,25 +84,17 @@ line-then false p full ls = first-then (record { bytes = full; ended = true }) l
 
 -- the bytes that are left, after a line of which `full` has come and what is held of it is held
 rest : (input : List ℕ) (started : Bool) (p : Params) (full : List ℕ)
-    → run (record { started = started; params = p; held = take mostHeld full }) input .output
-    ++ ending (run (record { started = started; params = p; held = take mostHeld full }) input .state)
-    ≡ remaining started p (linesAfter full input)
+    → whole (stateWith started p (take mostHeld full)) input ≡ remaining started p (linesAfter full input)
 unfolding hold nextLine
 rest [] started p full = last-line started p full
 rest (b ∷ bs) started p full = go (ℕ-discrete b newline) (λ q. rest bs true q []) (rest bs started p (full ++ (b ∷ [])))
   where
-    go : Dec (b ≡ newline)
-        → ((q : Params) → run (record { started = true; params = q; held = [] }) bs .output ++ ending (run (record { started = true; params = q; held = [] }) bs .state)
-        ≡ remaining true q (linesAfter [] bs))
-        → run (record { started = started; params = p; held = take mostHeld (full ++ (b ∷ [])) }) bs .output
-        ++ ending (run (record { started = started; params = p; held = take mostHeld (full ++ (b ∷ [])) }) bs .state)
-        ≡ remaining started p (linesAfter (full ++ (b ∷ [])) bs)
-        → run (record { started = started; params = p; held = take mostHeld full }) (b ∷ bs) .output
-        ++ ending (run (record { started = started; params = p; held = take mostHeld full }) (b ∷ bs) .state)
-        ≡ remaining started p (linesAfter full (b ∷ bs))
+    go : Dec (b ≡ newline) → ((q : Params) → whole (stateWith true q []) bs ≡ remaining true q (linesAfter [] bs))
+        → whole (stateWith started p (take mostHeld (full ++ (b ∷ [])))) bs ≡ remaining started p (linesAfter (full ++ (b ∷ [])) bs)
+        → whole (stateWith started p (take mostHeld full)) (b ∷ bs) ≡ remaining started p (linesAfter full (b ∷ bs))
     go (yes e) ends goes =
-        let s : State = record { started = started; params = p; held = take mostHeld full } in
-        let t : State = record { started = started; params = p; held = full } in
+        let s = stateWith started p (take mostHeld full) in
+        let t = stateWith started p full in
         let n = nextLine s in
         rw (run-newline s b bs e, eq-eqb b newline e)
         (append-assoc (answerTo s true) (run n bs .output) (ending (run n bs .state))
@@ -99,13 +103,13 @@ rest (b ∷ bs) started p full = go (ℕ-discrete b newline) (λ q. rest bs true
         ∙ ap (λ (x : State). answerTo t true ++ remaining true (x .params) (linesAfter [] bs)) (next-clip started p full)
         ∙ line-then started p full (linesAfter [] bs))
     go (no e) ends goes =
-        let s : State = record { started = started; params = p; held = take mostHeld full } in
+        let s = stateWith started p (take mostHeld full) in
         rw (run-byte s b bs e, ne-eqb b newline e, clip-append mostHeld full (b ∷ [])) goes
 
 -- ---- the laws that a program goes by
 
 -- the whole input in one piece
-pub listed : (input : List ℕ) → run start input .output ++ ending (run start input .state) ≡ listing input
+pub listed : (input : List ℕ) → whole start input ≡ listing input
 unfolding remaining
 listed input = rest input false noParameters []
 

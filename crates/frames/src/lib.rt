@@ -1,27 +1,15 @@
 // The listing of document 01, piece by piece: a state by value takes the input's bytes and gives the listing's into lent room.
 ghost use mathlib.Core.Path.{_≡_};
-ghost use mathlib.Core.List.{[], _++_};
-ghost use Prim.Native.Nat.{_+_, _-_, _≤_, _<_, min};
+ghost use mathlib.Core.List.{[]};
+ghost use Prim.Native.Nat.{_+_, _-_, _≤_, _<_};
 ghost use lib.ListN.{length, take, drop};
-ghost use lib.Seq.{slice, paste};
 ghost use mathlib.Core.Bool.{cond};
-ghost use lib.Dec.{eqb, leb};
-ghost use Rattle.lines.specs.Line.{longestLine, Put};
-ghost use Rattle.frames.specs.Pieces.{stateOf, start, stopped, answerTo, nextLine, hold, beforeNewline, lineLength, taken, nothingLeft, ending, Fed};
+ghost use lib.Dec.{leb};
+ghost use Rattle.lines.specs.Calls.{longestLine, Put};
+ghost use Rattle.partial_line.specs.Calls.{stateOf};
+ghost use Rattle.frames.specs.Calls.{answerTo, nextLine, beforeNewline, lineLength, leadingLine, taken, ending, Fed};
 use lines::LONGEST_LINE;
-use params::MOST_WORDS;
-use params::Params;
-
-// How many bytes of a line are held: those of the longest well-formed line, eight digits a word, and one more.
-pub const MOST_HELD: usize = 8 * MOST_WORDS + 1;
-
-// What is kept between two pieces: whether the first line is done, its parameters, and the bytes of the line so far.
-pub struct Partial {
-    pub started: bool,
-    pub params: Params,
-    pub line: [u8; MOST_HELD],
-    pub len: usize,
-}
+use partial_line::Partial;
 
 // The state after some bytes, how many were taken, and how many were given.
 pub struct Taken {
@@ -36,43 +24,6 @@ pub struct End {
     pub made: usize,
 }
 
-// Before the first piece.
-pub fn start() -> Partial
-    ensures { λ r. ⌜ stateOf r ≡ start ⌝ }
-{
-    let params = Params {
-        kind: 0,
-        dimension: 0,
-        mode: 0,
-        planes: 0,
-        width: 0,
-    };
-    Partial {
-        started: false,
-        params,
-        line: [0u8; MOST_HELD],
-        len: 0,
-    }
-}
-
-// Whether the first line was bad: nothing more will be given.
-pub fn stopped(s: Partial) -> bool
-    ensures { λ r. ⌜ r ≡ stopped (stateOf s) ⌝ }
-{
-    if s.started {
-        params::rows::parameter_row(s.params) != 0
-    } else {
-        false
-    }
-}
-
-// The bytes of a line that are held.
-fn held(line: &[u8], len: usize) -> &[u8]
-    ensures { λ r. ⌜ now r ≡ take len (now (line .entry)) ⌝ }
-{
-    if len < line.len() { &line[..len] } else { line }
-}
-
 // The line that is held is answered from place `at` on; the place after that.
 fn answer_line(s: Partial, ended: bool, out: &mut [u8], at: usize) -> usize
     requires { ⌜ at + longestLine ≤ length (now out) ⌝ }
@@ -80,9 +31,9 @@ fn answer_line(s: Partial, ended: bool, out: &mut [u8], at: usize) -> usize
 {
     let bytes = s.line;
     if s.started {
-        lines::block_line(s.params, held(&bytes, s.len), ended, out, at)
+        lines::block_line(s.params, partial_line::held(&bytes, s.len), ended, out, at)
     } else {
-        lines::first_line(held(&bytes, s.len), ended, out, at)
+        lines::first_line(partial_line::held(&bytes, s.len), ended, out, at)
     }
 }
 
@@ -100,57 +51,12 @@ fn next_line(s: Partial) -> Partial
             len: 0,
         };
     }
-    let params = lines::first_parameters(held(&bytes, s.len), true);
+    let params = lines::first_parameters(partial_line::held(&bytes, s.len), true);
     Partial {
         started: true,
         params,
         line: bytes,
         len: 0,
-    }
-}
-
-fn least(a: usize, b: usize) -> usize
-    ensures { λ r. ⌜ r ≡ min a b ⌝ }
-{
-    if a < b { a } else { b }
-}
-
-// So many bytes of a piece go into the line from place n on.
-fn copy_in(line: &mut [u8], n: usize, piece: &[u8], from: usize, m: usize)
-    requires { ⌜ (n + m ≤ length (now line)) × (from + m ≤ length (now piece)) ⌝ }
-    ensures { λ r. ⌜ now (line .exit) ≡ paste (now (line .entry)) n (drop from (now (piece .entry))) m ⌝ }
-{
-    let mut i = 0;
-    while i < m {
-        line[n + i] = piece[from + i];
-        i += 1;
-    }
-}
-
-// The bytes of a piece from one place to another join those held, as many as there is room for; how many are held then.
-fn join(line: &mut [u8], len: usize, piece: &[u8], from: usize, to: usize) -> usize
-    requires { ⌜ (from ≤ to) × (to ≤ length (now piece)) ⌝ }
-    ensures { λ r. ⌜ take r (now (line .exit)) ≡ take (length (now (line .entry))) (take len (now (line .entry)) ++ slice from to (now (piece .entry))) ⌝ }
-{
-    let n = least(len, line.len());
-    let m = least(to - from, line.len() - n);
-    copy_in(line, n, piece, from, m);
-    n + m
-}
-
-// The bytes of a piece from one place to another join the line.
-fn hold_bytes(s: Partial, piece: &[u8], from: usize, to: usize) -> Partial
-    requires { ⌜ (from ≤ to) × (to ≤ length (now piece)) ⌝ }
-    ensures { λ r. ⌜ stateOf r ≡ hold (stateOf s) (slice from to (now (piece .entry))) ⌝ }
-{
-    let mut bytes = s.line;
-    let len = join(&mut bytes, s.len, piece, from, to);
-    let params = s.params;
-    Partial {
-        started: s.started,
-        params,
-        line: bytes,
-        len,
     }
 }
 
@@ -172,11 +78,11 @@ fn newline_at(piece: &[u8], from: usize) -> usize
 // The rest of a line, or of the piece if that ends before the line does.
 fn feed_line(s: Partial, piece: &[u8], from: usize, out: &mut [u8], at: usize) -> Taken
     requires { ⌜ (from < length (now piece)) × (at + longestLine ≤ length (now out)) ⌝ }
-    ensures { λ r. ⌜ Fed (stateOf s) (take (lineLength (drop from (now (piece .entry)))) (drop from (now (piece .entry)))) (now (out .entry)) (now (out .exit)) at (r .made) (stateOf (r .state))
+    ensures { λ r. ⌜ Fed (stateOf s) (leadingLine (drop from (now (piece .entry)))) (now (out .entry)) (now (out .exit)) at (r .made) (stateOf (r .state))
         × (r .used ≡ from + lineLength (drop from (now (piece .entry)))) ⌝ }
 {
     let end = newline_at(piece, from);
-    let line = hold_bytes(s, piece, from, end);
+    let line = partial_line::hold_bytes(s, piece, from, end);
     if end < piece.len() {
         let made = answer_line(line, true, out, at);
         let next = next_line(line);
@@ -223,24 +129,6 @@ pub fn feed(s: Partial, piece: &[u8], out: &mut [u8]) -> Taken
     Taken { state, used, made }
 }
 
-fn empty(bytes: &[u8]) -> bool
-    ensures { λ r. ⌜ r ≡ eqb (length (now (bytes .entry))) 0 ⌝ }
-{
-    bytes.len() == 0
-}
-
-// Whether the input ends after a line, other than the first.
-fn nothing_left(s: Partial) -> bool
-    ensures { λ r. ⌜ r ≡ nothingLeft (stateOf s) ⌝ }
-{
-    let bytes = s.line;
-    if s.started {
-        empty(held(&bytes, s.len))
-    } else {
-        false
-    }
-}
-
 // The end of the input: what is left is put at the start of the room, if there is room for the longest line.
 pub fn finish(s: Partial, out: &mut [u8]) -> End
     ensures { λ r. ⌜ (r .done ≡ leb longestLine (length (now (out .entry))))
@@ -253,7 +141,7 @@ pub fn finish(s: Partial, out: &mut [u8]) -> End
             made: 0,
         };
     }
-    if nothing_left(s) {
+    if partial_line::nothing_left(s) {
         return End {
             done: true,
             made: 0,

@@ -1,10 +1,18 @@
 // The listing program: lists standard input on standard output. All that matters is in `frames`; here the bytes come and go.
-ghost use Prim.Native.Nat.{_≤_};
-ghost use lib.ListN.{length};
-use frames::Partial;
+ghost use mathlib.Core.Path.{_≡_};
+ghost use mathlib.Core.Bool.{cond};
+ghost use mathlib.Core.List.{[]};
+ghost use Prim.Native.Nat.{ℕ, _≤_, _<_};
+ghost use lib.Dec.{leb};
+ghost use lib.ListN.{length, take};
+ghost use lib.Seq.{sets};
+ghost use Rattle.lines.specs.Calls.{longestLine};
+ghost use Rattle.partial_line.specs.Calls.{stateOf};
+ghost use Rattle.frames.specs.Calls.{run, taken, ending};
 use libc::EINTR;
 use libc::STDIN_FILENO;
 use libc::STDOUT_FILENO;
+use partial_line::Partial;
 
 // What a turn found: more may come, the input ended, or the program stops.
 enum Next {
@@ -34,7 +42,9 @@ fn write_out(bytes: &[u8]) -> bool {
 
 // Some bytes of a piece go in, and what they give goes out. No byte is taken where the output failed.
 fn list_part(s: Partial, piece: &[u8], out: &mut [u8]) -> Part
-    ensures { λ r. ⌜ r .used ≤ length (now (piece .entry)) ⌝ }
+    ensures { λ r. ⌜ (stateOf (r .state)
+        ≡ run (stateOf s) (take (taken (stateOf s) (now (piece .entry)) (length (now (out .entry)))) (now (piece .entry))) .state)
+        × (0 < r .used → r .used ≡ taken (stateOf s) (now (piece .entry)) (length (now (out .entry)))) × (r .used ≤ length (now (piece .entry))) ⌝ }
 {
     let t = frames::feed(s, piece, out);
     let made = t.made;
@@ -48,21 +58,24 @@ fn list_part(s: Partial, piece: &[u8], out: &mut [u8]) -> Part
     }
 }
 
-// A whole piece.
-fn list_piece(s: Partial, piece: &[u8], out: &mut [u8]) -> Turn {
+// A whole piece, each byte of it once.
+fn list_piece(s: Partial, piece: &[u8], out: &mut [u8]) -> Turn
+    ensures { λ r. ⌜ (r .next ≡ Next.More → stateOf (r .state) ≡ run (stateOf s) (now (piece .entry)) .state) × (r .next ≡ Next.Ended → ⊥) ⌝ }
+{
     let mut state = s;
     let mut at = 0;
     while at < piece.len() {
         let p = list_part(state, &piece[at..], out);
         let next = p.state;
         state = next;
-        if p.used == 0 {
+        let used = p.used;
+        if used == 0 {
             return Turn {
                 state,
                 next: Next::Stop,
             };
         }
-        at += p.used;
+        at += used;
     }
     Turn {
         state,
@@ -80,7 +93,10 @@ fn failed() -> Next {
 }
 
 // One read, and what came of it.
-fn read_once(s: Partial, input: &mut [u8], out: &mut [u8]) -> Turn {
+fn read_once(s: Partial, input: &mut [u8], out: &mut [u8]) -> Turn
+    ensures { λ r. ⌜ (r .next ≡ Next.More → (n : ℕ) × (stateOf (r .state) ≡ run (stateOf s) (take n (now (input .exit))) .state))
+        × (r .next ≡ Next.Ended → r .state ≡ s) ⌝ }
+{
     let got = libc::read(STDIN_FILENO, input);
     if got < 0 {
         let next = failed();
@@ -97,7 +113,9 @@ fn read_once(s: Partial, input: &mut [u8], out: &mut [u8]) -> Turn {
 }
 
 // The end of the input.
-fn end(s: Partial, out: &mut [u8]) {
+fn end(s: Partial, out: &mut [u8])
+    ensures { λ r. ⌜ now (out .exit) ≡ sets (now (out .entry)) 0 (cond (leb longestLine (length (now (out .entry)))) (ending (stateOf s)) []) ⌝ }
+{
     let e = frames::finish(s, out);
     let made = e.made;
     write_out(&out[..made]);
@@ -106,9 +124,9 @@ fn end(s: Partial, out: &mut [u8]) {
 // Turns until the input ends or the program stops; after a bad first line nothing more is read. A loop has to end and nothing says that the input
 // does, so turns are counted down from a number that no run uses up.
 fn list_all(input: &mut [u8], out: &mut [u8]) {
-    let mut state = frames::start();
+    let mut state = partial_line::start();
     let mut turns = u64::MAX;
-    while turns > 0 && !frames::stopped(state) {
+    while turns > 0 && !partial_line::stopped(state) {
         let t = read_once(state, input, out);
         let now = t.state;
         state = now;

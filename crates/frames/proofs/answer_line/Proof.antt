@@ -1,5 +1,6 @@
 -- The first line has its own answer. Assumes nothing.
-use Rattle.frames.specs.Pieces.{stateOf, answerTo}
+use Rattle.partial_line.specs.Calls.{stateOf}
+use Rattle.frames.specs.Calls.{answerTo}
 use borrow.Author.Needs.{needs}
 use Rattle.frames.proofs.answer_line.Statement.{statement}
 use Rattle.frames.proofs.answer_line.Tie as tie
@@ -27,14 +28,20 @@ same-length c = search needs
 
 returns : tie.Need-returns
 unfolding stateOf answerTo
-returns c = rw (c .before .before .before .before .before .before .if1 .taken, ← c .before .before .before .before .held .ensures) (c .before .before .block-line .ensures)
+returns c =
+    let answer = c .before .before in
+    let held = answer .before .before in
+    rw (held .before .before .if1 .taken, ← held .held .ensures) (answer .block-line .ensures)
 
 same-length-2 : tie.Need-same-length-2
 same-length-2 c = search needs
 
 returns-2 : tie.Need-returns-2
 unfolding stateOf answerTo
-returns-2 c = rw (c .before .before .before .before .before .before .if1 .left, ← c .before .before .before .before .held2 .ensures) (c .before .before .first-line .ensures)
+returns-2 c =
+    let answer = c .before .before in
+    let held = answer .before .before in
+    rw (held .before .before .if1 .left, ← held .held2 .ensures) (answer .first-line .ensures)
 
 pub answer-line-spec : {M : Type 1} → statement M
 answer-line-spec =

@@ -1,11 +1,11 @@
 -- The invariant: what has been taken so far, and that the rest will be taken as from here. Assumes nothing.
 use mathlib.Core.Path.{_≡_, refl, sym, _∙_}
-use Prim.Native.Nat.{_-_}
+use Prim.Native.Nat.{_-_, _≤_}
 use native.Mathlib.Omega.{arith}
 use borrow.Author.Tests.{leb-true}
 use lib.ListN.{length, drop, length-drop}
-use Rattle.lines.specs.Line.{longestLine}
-use Rattle.frames.specs.Pieces.{stateOf}
+use Rattle.lines.specs.Calls.{longestLine}
+use Rattle.partial_line.specs.Calls.{stateOf}
 use Rattle.frames.proofs.PieceLaws.{Going, going-start, going-line, going-full, going-done, line-some, line-within}
 use Rattle.frames.proofs.FitLaws.{going-fits}
 use borrow.Author.Needs.{needs}
@@ -32,20 +32,26 @@ feed-line-requires c κs =
 
 loop-less : tie.Need-loop-less Inv-loop μ-loop
 loop-less c =
-    let l = c .before .before .before .before .before .before .before .before .loop in
-    let p = c .before .before .before .before .before .before .before .before .before .before .before .args .piece .now in
-    let u = c .before .before .before .feed-line .ensures .1 in
-    omega (arith, line-some (drop (l .used) p) (simp length-drop (omega (arith, c .before .before .before .before .before .before .before .loop-test .taken))), c .before .before .before .before .before .before .before .loop-test .taken)
+    let line = c .before .before .before in
+    let test = line .before .before .before .before .loop-test in
+    let l = line .before .before .before .before .before .loop in
+    let piece = line .before .before .before .before .before .before .before .before .args .piece .now in
+    let u = line .feed-line .ensures .1 in
+    omega (arith, line-some (drop (l .used) piece) (simp length-drop (omega (arith, test .taken))), test .taken)
 
 loop-again : tie.Need-loop-again Inv-loop μ-loop
 loop-again c =
-    let l = c .before .before .before .before .before .before .before .before .loop in
-    let p = c .before .before .before .before .before .before .before .before .before .before .before .args .piece .now in
-    let f = c .before .before .before .feed-line in
-    let r : length (l .out) ≡ length (c .before .before .before .before .before .before .before .before .before .before .before .args .out .now) = l .inv .1 in (
-      going-line (l .inv .0) (rw r at (sym (c .before .before .before .before .before .before .has-room .ensures) ∙ c .before .before .before .before .before .if1 .taken)) (f .ensures .0) (f .ensures .1) (omega (arith, f .ensures .1, line-within (drop (l .used) p), length-drop (l .used) p, c .before .before .before .before .before .before .before .loop-test .taken)),
-      f .kept .1 .1 .1 .0 ∙ l .inv .1,
-    )
+    let line = c .before .before .before in
+    let f = line .feed-line in
+    let room = line .before .before .before in
+    let test = room .before .loop-test in
+    let l = room .before .before .loop in
+    let a = room .before .before .before .before .before .args in
+    let d = drop (l .used) (a .piece .now) in
+    let r : length (l .out) ≡ length (a .out .now) = l .inv .1 in
+    let e = rw r at (sym (room .has-room .ensures) ∙ line .before .before .if1 .taken) in
+    let w : f .result .used ≤ length (a .piece .now) = omega (arith, f .ensures .1, line-within d, length-drop (l .used) (a .piece .now), test .taken) in
+    (going-line (l .inv .0) e (f .ensures .0) (f .ensures .1) w, f .kept .1 .1 .1 .0 ∙ l .inv .1)
 
 same-length : tie.Need-same-length Inv-loop μ-loop
 same-length c = search needs

@@ -1,10 +1,12 @@
 -- The bytes up to a newline are held, and the line is answered; or the piece ends before. Assumes nothing.
-use mathlib.Core.Path.{sym, ap, _∙_}
+use mathlib.Core.Path.{_≡_, sym, ap, _∙_}
+use Prim.Native.Nat.{_-_}
 use native.Mathlib.Omega.{arith}
 use lib.ListN.{drop, length-drop}
-use Rattle.frames.specs.Pieces.{stateOf, Ran, beforeNewline}
+use Rattle.partial_line.specs.Calls.{stateOf}
+use Rattle.frames.specs.Calls.{Ran, beforeNewline}
 use Rattle.lines.proofs.PutLaws.{put-none}
-use Rattle.frames.proofs.PieceLaws.{part, line-ended, line-rest}
+use Rattle.frames.proofs.PieceLaws.{line-ended, line-rest}
 use borrow.Author.Needs.{needs}
 use Rattle.frames.proofs.feed_line.Statement.{statement}
 use Rattle.frames.proofs.feed_line.Tie as tie
@@ -29,13 +31,13 @@ same-length c = search needs
 
 returns : tie.Need-returns
 returns c =
-    let a = c .before .before .before .before .before .before .before .before .before .before .args in
+    let held = c .before .before .before .before .before .before in
+    let end = held .before .newline-at in
+    let a = held .before .before .before .before .args in
     let d = drop (a .from) (a .piece .now) in
-    let n = c .before .before .before .before .before .before .before .newline-at .ensures in
-    let h = c .before .before .before .before .before .before .hold-bytes .ensures in
     let r = line-ended (stateOf (a .s)) d (simp length-drop (omega (arith, c .before .before .before .before .before .if1 .taken))) in
-    let t = part (a .piece .now) (a .from) (c .before .before .before .before .before .before .before .newline-at .result) (beforeNewline d) (n .0) in
-    let q = rw t at h in (
+    let t : end .result - a .from ≡ beforeNewline d = omega (arith, end .ensures .0) in
+    let q = rw t at (held .hold-bytes .ensures) in (
       record {
         state = c .next-line .ensures ∙ rw q (sym (ap (λ (x : Ran). x .state) (r .1)));
         output = rw (r .1, ← q) (c .before .before .before .answer-line .ensures);
@@ -45,13 +47,12 @@ returns c =
 
 returns-2 : tie.Need-returns-2
 returns-2 c =
+    let end = c .before .before .newline-at in
     let a = c .before .before .before .before .before .args in
     let d = drop (a .from) (a .piece .now) in
-    let n = c .before .before .newline-at .ensures in
-    let h = c .before .hold-bytes .ensures in
     let r = line-rest (stateOf (a .s)) d (simp length-drop (omega arith)) (simp length-drop (omega (arith, c .if1 .left))) in
-    let t = part (a .piece .now) (a .from) (c .before .before .newline-at .result) (beforeNewline d) (n .0) in
-    let q = rw t at h in (
+    let t : end .result - a .from ≡ beforeNewline d = omega (arith, end .ensures .0) in
+    let q = rw t at (c .before .hold-bytes .ensures) in (
       record {
         state = q ∙ sym (ap (λ (x : Ran). x .state) (r .1));
         output = rw (r .1) (put-none _ _);

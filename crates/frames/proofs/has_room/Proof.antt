@@ -2,7 +2,7 @@
 use Prim.Native.Nat.{_-_}
 use native.Mathlib.Omega.{arith}
 use borrow.Author.Tests.{lt-leb}
-use Rattle.lines.specs.Line.{longestLine}
+use Rattle.lines.specs.Calls.{longestLine}
 use borrow.Author.Needs.{needs}
 use Rattle.frames.proofs.has_room.Statement.{statement}
 use Rattle.frames.proofs.has_room.Tie as tie

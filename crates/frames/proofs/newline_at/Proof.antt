@@ -3,7 +3,7 @@ use mathlib.Core.Path.{_≡_, refl}
 use Prim.Native.Nat.{_+_, _-_, _≤_}
 use native.Mathlib.Omega.{arith}
 use lib.ListN.{length, drop}
-use Rattle.frames.specs.Pieces.{beforeNewline}
+use Rattle.frames.specs.Calls.{beforeNewline}
 use Rattle.frames.proofs.LineLaws.{newline-here, newline-later, newline-none}
 use Rattle.frames.proofs.newline_at.Statement.{statement}
 use Rattle.frames.proofs.newline_at.Tie as tie

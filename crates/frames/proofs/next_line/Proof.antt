@@ -1,5 +1,6 @@
 -- The first line's parameters stay. Assumes nothing.
-use Rattle.frames.specs.Pieces.{stateOf, nextLine}
+use Rattle.partial_line.specs.Calls.{stateOf}
+use Rattle.frames.specs.Calls.{nextLine}
 use borrow.Author.Needs.{needs}
 use Rattle.frames.proofs.next_line.Statement.{statement}
 use Rattle.frames.proofs.next_line.Tie as tie

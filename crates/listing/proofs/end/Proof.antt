@@ -21,7 +21,9 @@ same-length : tie.Need-same-length
 same-length c = search needs
 
 returns : tie.Need-returns
-returns c = search needs
+returns c =
+    let f = c .before .before .before .before .finish .ensures in
+    rw (← f .0) (f .1 .stored)
 
 pub end-spec : {M : Type 1} → statement M
 end-spec =

@@ -1,4 +1,4 @@
--- What a piece gives lies within the room, and what is taken within the piece. Assumes nothing.
+-- The state is that of the bytes that were fed; what they give lies within the room, and what is taken within the piece. Assumes nothing.
 use native.Mathlib.Omega.{arith}
 use lib.ListN.{length-take}
 use borrow.Author.Needs.{needs}
@@ -21,13 +21,17 @@ same-length : tie.Need-same-length
 same-length c = search needs
 
 returns : tie.Need-returns
-returns c = search needs
+returns c =
+    let f = c .before .before .before .before .before .before .feed .ensures in
+    (rw (← f .0) (f .1 .state), λ h. absurd (omega arith), omega arith)
 
 same-length-2 : tie.Need-same-length-2
 same-length-2 c = search needs
 
 returns-2 : tie.Need-returns-2
-returns-2 c = c .before .before .before .before .before .before .feed .ensures .2
+returns-2 c =
+    let f = c .before .before .before .before .before .before .feed .ensures in
+    (rw (← f .0) (f .1 .state), λ h. f .0, f .2)
 
 pub list-part-spec : {M : Type 1} → statement M
 list-part-spec =
