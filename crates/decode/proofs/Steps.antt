@@ -1,6 +1,6 @@
 -- A block read, step by step as the code goes: its words, and whether the bits are a block's padded code.
-use mathlib.Core.Path.{_≡_, refl, sym, ap, _∙_}
-use mathlib.Core.Bool.{Bool, true, false, not, _&&_}
+use mathlib.Core.Path.{_≡_, ap, _∙_}
+use mathlib.Core.Bool.{Bool, true, not, _&&_}
 use mathlib.Core.List.{List, map}
 use Prim.Native.Nat.{ℕ, suc, _+_, _^_, _≤_}
 use native.Mathlib.Numerals.{add-one}
@@ -34,24 +34,11 @@ coefficients-read {us} {r} f w N p head d at end next whole count size h k c rea
     let words : us ≡ readWords w N (suc (numberOf (take head s))) (drop head s) = rw (← n, ← (slice-rest d at head end)) (read .words) in
     rw (size, ← k) (words, e ∙ rw (read .whole, read .left, words, n, slice-rest d at head end))
 
-and-true : (b : Bool) → (b && true) ≡ b
-and-true true = refl
-and-true false = refl
-
-and-false : (b : Bool) → (b && false) ≡ false
-and-false true = refl
-and-false false = refl
-
 -- flips, after the bits 1 1
-module _ (f : Format) (d p : ℕ) (s : List Bool) {v : Bool} (planes : v ≡ paddedPlanes f (4 ^ d) s) where
-  pub flipped-read : {ws : List ℕ} {r : Bool} → v ≡ true → ws ≡ map (flip (wordSize f)) (readIntegers f true d p s)
-      → r ≡ (not (allZero ws) && not (allWhole f (blockExponent f ws) ws)) → r ≡ paddedFlipped f d p s
-  unfolding paddedFlipped others
-  flipped-read t w q = q ∙ rw (sym planes ∙ t, ← w) (sym (and-true _))
-
-  pub flipped-cut : v ≡ false → false ≡ paddedFlipped f d p s
-  unfolding paddedFlipped
-  flipped-cut t = rw (sym planes ∙ t) (sym (and-false (others f (readIntegers f true d p s))))
+pub flipped-read : {ws : List ℕ} {q v : Bool} (f : Format) (d p : ℕ) (s : List Bool) → ws ≡ map (flip (wordSize f)) (readIntegers f true d p s)
+    → q ≡ (not (allZero ws) && not (allWhole f (blockExponent f ws) ws)) → v ≡ paddedPlanes f (4 ^ d) s → (q && v) ≡ paddedFlipped f d p s
+unfolding paddedFlipped others
+flipped-read f d p s w e planes = rw (e, planes, w)
 
 -- e, which is an exponent field, then integers, whose patterns at e are the words
 module _ (f : Format) (d p : ℕ) (bs : List Bool) (at end head e : ℕ) (k : head ≡ fieldBits f) (n : e ≡ numberOf (slice at (at + head) bs)) where
@@ -72,12 +59,7 @@ module _ (f : Format) (d p : ℕ) (bs : List Bool) (at end head e : ℕ) (k : he
         → ws ≡ scaledBy f (readIntegers f exact d p) slot
     scaled-read exact i w = rw (← first, ← rest, ← i) w
 
-    module _ {v : Bool} (planes : v ≡ paddedPlanes f (4 ^ d) (slice (at + head) end bs)) where
-      pub multiples-read : {ints : List ℕ} {r : Bool} → v ≡ true → ints ≡ readIntegers f true d p (slice (at + head) end bs) → r ≡ multiples f e ints
-          → r ≡ paddedMultiples f d p slot
-      unfolding paddedMultiples
-      multiples-read t i m = m ∙ rw (← first, ← rest, ← i, sym planes ∙ t) (sym (and-true _))
-
-      pub multiples-cut : v ≡ false → false ≡ paddedMultiples f d p slot
-      unfolding paddedMultiples
-      multiples-cut t = rw (← rest, sym planes ∙ t) (sym (and-false (multiples f (numberOf (take (fieldBits f) slot)) (readIntegers f true d p (slice (at + head) end bs)))))
+    pub multiples-read : {ints : List ℕ} {q v : Bool} → ints ≡ readIntegers f true d p (slice (at + head) end bs) → q ≡ multiples f e ints
+        → v ≡ paddedPlanes f (4 ^ d) (slice (at + head) end bs) → (q && v) ≡ paddedMultiples f d p slot
+    unfolding paddedMultiples
+    multiples-read i m planes = rw (m, planes, ← first, ← rest, ← i)

@@ -99,11 +99,7 @@ fn read_multiples_by(
     let e = bits::get_number(buf, at, head);
     let padded = read_integers(size, true, d, p, buf, at + head, end, ints);
     change_into(size, Change::ToPattern(e), ints, words);
-    if padded {
-        verify::multiples(size, e, ints, words)
-    } else {
-        false
-    }
+    verify::multiples(size, e, ints, words) & padded
 }
 
 // The same, with scratch words of its own.
@@ -142,11 +138,7 @@ fn read_flipped(
 {
     let padded = read_integers(size, true, d, p, buf, at, end, words);
     change_all(size, Change::Flip, words);
-    if padded {
-        verify::others(size, words)
-    } else {
-        false
-    }
+    verify::others(size, words) & padded
 }
 
 // A block of float patterns in exact mode, by its first bits.

@@ -1,5 +1,5 @@
 -- e, then the integers, of which the words are the patterns. Assumes nothing.
-use Rattle.decode.proofs.Steps.{exponent-read, scaled-read, multiples-read, multiples-cut}
+use Rattle.decode.proofs.Steps.{exponent-read, scaled-read, multiples-read}
 use Rattle.bits.proofs.StreamLaws.{length-bitsOf}
 use Rattle.bits.specs.Stream.{bitsOf}
 use Rattle.floats.specs.Calls.{formatOf}
@@ -43,9 +43,7 @@ change-into-requires c κs =
     (s .pre .0 .sized, λ i h. small, search needs)
 
 multiples-requires : tie.Need-multiples-requires
-multiples-requires c κs =
-    let change = c .before .before .before .before .before in
-    (entry (at-integers change) .pre .0 .sized, change .change-into .ensures)
+multiples-requires c κs = search needs
 
 same-length : tie.Need-same-length
 same-length c = search needs
@@ -55,8 +53,7 @@ same-length-2 c = search needs
 
 returns : tie.Need-returns
 returns c =
-    let branch = c .before .before .before in
-    let change = branch .before .before .before in
+    let change = c .before .before .before .before .before in
     let ints = at-integers change in
     let get = at-exponent ints in
     let field = get .before .field-bits .ensures in
@@ -68,30 +65,7 @@ returns c =
       scaled-read f (a .d) (a .p) bs (a .at) (a .end) _ _ (field .0) (get .get-number .ensures) (omega (arith, field .0, s .pre .2 .room)) true
           (read .0) (change .change-into .ensures),
       multiples-read f (a .d) (a .p) bs (a .at) (a .end) _ _ (field .0) (get .get-number .ensures) (omega (arith, field .0, s .pre .2 .room))
-          (read .1) (branch .if1 .taken) (read .0) (c .multiples .ensures),
-    )
-
-same-length-3 : tie.Need-same-length-3
-same-length-3 c = search needs
-
-same-length-4 : tie.Need-same-length-4
-same-length-4 c = search needs
-
-returns-2 : tie.Need-returns-2
-returns-2 c =
-    let change = c .before .before .before in
-    let ints = at-integers change in
-    let get = at-exponent ints in
-    let field = get .before .field-bits .ensures in
-    let s = entry ints in
-    let a = s .args in
-    let f = formatOf (a .size) in
-    let bs = bitsOf (a .buf .now) in
-    let read = ints .read-integers .ensures in (
-      scaled-read f (a .d) (a .p) bs (a .at) (a .end) _ _ (field .0) (get .get-number .ensures) (omega (arith, field .0, s .pre .2 .room)) true
-          (read .0) (change .change-into .ensures),
-      multiples-cut f (a .d) (a .p) bs (a .at) (a .end) _ _ (field .0) (get .get-number .ensures) (omega (arith, field .0, s .pre .2 .room))
-          (read .1) (c .if1 .left),
+          (read .0) (c .multiples .ensures) (read .1),
     )
 
 pub read-multiples-by-spec : {M : Type 1} → statement M
@@ -106,7 +80,4 @@ read-multiples-by-spec =
     multiples-requires
     same-length
     same-length-2
-    returns
-    same-length-3
-    same-length-4
-    returns-2)
+    returns)
