@@ -133,7 +133,8 @@ fn read_flipped(
     words: &mut [u64],
 ) -> bool
     requires { ⌜ Shape size d p (length (now words)) × Range at (countBits (formatOf size)) end (length (now buf)) ⌝ }
-    ensures { λ r. ⌜ (now (words .exit) ≡ map (flip (wordSize (formatOf size))) (readIntegers (formatOf size) true d p (slice at end (bitsOf (now (buf .entry))))))
+    ensures { λ r. ⌜ (now (words .exit) ≡ map (flip (wordSize (formatOf size)))
+        (readIntegers (formatOf size) true d p (slice at end (bitsOf (now (buf .entry))))))
         × (r ≡ paddedFlipped (formatOf size) d p (slice at end (bitsOf (now (buf .entry))))) ⌝ }
 {
     let padded = read_integers(size, true, d, p, buf, at, end, words);

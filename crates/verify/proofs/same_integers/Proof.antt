@@ -69,7 +69,8 @@ loop-again c =
     let a = entry h .args in
     let f = toInteger (formatOf (a .size)) (a .e) in (
       search needs,
-      l .inv .1 ∙ words-next f (a .words .now) (a .ints .now) (l .i) (omega arith) (omega arith) (rw (← (c .before .before .to-integer .ensures)) (omega arith)),
+      l .inv .1 ∙ words-next f (a .words .now) (a .ints .now) (l .i) (omega arith) (omega arith)
+          (rw (← (c .before .before .to-integer .ensures)) (omega arith)),
     )
 
 returns-2 : tie.Need-returns-2 Inv-loop μ-loop
