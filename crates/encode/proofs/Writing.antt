@@ -44,17 +44,16 @@ module _ (f : Format) (d p : ℕ) (ws : List ℕ) where
     unfolding uncutFloats
     lossy-some h r₁ r₂ = rw (h, ← own) (written-append r₁ r₂)
 
-    module _ {next : List Bool} {out₃ : Cursor} (some : allZero ws ≡ false) (r₁ : Written before mid out limit (true ∷ []) out₁) where
-      -- 1 0, then e and the integers
-      pub exact-whole : allWhole f e ws ≡ true → Written mid next out₁ limit (false ∷ []) out₂
-          → Written next after out₂ limit (numberBits (fieldBits f) e ++ integersCode f true d p (map (toInteger f e) ws)) out₃
-          → Written before after out limit (exactFloats f d ws) out₃
-      unfolding exactFloats exactIntegers
-      exact-whole k r₂ r₃ = rw (some, ← own, k) (written-append r₁ (written-append r₂ r₃))
+    -- 1 0, then e and the integers
+    pub exact-whole : allZero ws ≡ false → allWhole f e ws ≡ true → Written before mid out limit (numberBits 2 1) out₁
+        → Written mid after out₁ limit (numberBits (fieldBits f) e ++ integersCode f true d p (map (toInteger f e) ws)) out₂
+        → Written before after out limit (exactFloats f d ws) out₂
+    unfolding exactFloats exactIntegers
+    exact-whole h k r₁ r₂ = rw (h, ← own, k) (written-append r₁ r₂)
 
-      -- 1 1, then the flips
-      pub exact-raw : allWhole f e ws ≡ false → Written mid next out₁ limit (true ∷ []) out₂
-          → Written next after out₂ limit (integersCode f true d p (map (flip (wordSize f)) ws)) out₃
-          → Written before after out limit (exactFloats f d ws) out₃
-      unfolding exactFloats exactIntegers
-      exact-raw k r₂ r₃ = rw (some, ← own, k) (written-append r₁ (written-append r₂ r₃))
+    -- 1 1, then the flips
+    pub exact-raw : allZero ws ≡ false → allWhole f e ws ≡ false → Written before mid out limit (numberBits 2 3) out₁
+        → Written mid after out₁ limit (integersCode f true d p (map (flip (wordSize f)) ws)) out₂
+        → Written before after out limit (exactFloats f d ws) out₂
+    unfolding exactFloats exactIntegers
+    exact-raw h k r₁ r₂ = rw (h, ← own, k) (written-append r₁ r₂)

@@ -186,13 +186,14 @@ fn put_exact_floats(
         return Coded { out: next };
     }
     let e = floats::block_exponent(size, words);
-    let first = bits::put(buf, out, limit, true);
     if floats::all_whole(size, e, words) {
-        let second = bits::put(buf, first, limit, false);
-        put_scaled(size, true, d, p, e, words, buf, second, limit)
+        // Bits 1 0.
+        let next = bits::put_number(buf, out, limit, 1, 2);
+        put_scaled(size, true, d, p, e, words, buf, next, limit)
     } else {
-        let second = bits::put(buf, first, limit, true);
-        put_changed(size, true, Change::Flip, d, p, words, buf, second, limit)
+        // Bits 1 1.
+        let next = bits::put_number(buf, out, limit, 3, 2);
+        put_changed(size, true, Change::Flip, d, p, words, buf, next, limit)
     }
 }
 

@@ -13,12 +13,9 @@ use Rattle.encode.proofs.put_exact_floats.Tie as tie
 abbrev entry : tie.After-all-zero → tie.Start
 entry c = c .before .before .before
 
--- what the second test follows: the first bit, the exponent, the first test
-abbrev at-first : tie.After-all-whole → tie.After-put2
-at-first c = c .before .before .before
-
+-- what the second test follows: the exponent, and the first test
 abbrev at-exponent : tie.After-all-whole → tie.After-block-exponent
-at-exponent c = at-first c .before .before
+at-exponent c = c .before
 
 abbrev at-zero : tie.After-all-whole → tie.After-all-zero
 at-zero c = at-exponent c .before .before
@@ -47,27 +44,24 @@ returns c =
 block-exponent-requires : tie.Need-block-exponent-requires
 block-exponent-requires c κs = search needs
 
-put-requires-2 : tie.Need-put-requires-2
-put-requires-2 c κs = search needs
-
 all-whole-requires : tie.Need-all-whole-requires
 all-whole-requires c κs = search needs
 
-put-requires-3 : tie.Need-put-requires-3
-put-requires-3 c κs = search needs
+put-number-requires : tie.Need-put-number-requires
+put-number-requires c κs = search needs
 
 put-scaled-requires : tie.Need-put-scaled-requires
 put-scaled-requires c κs =
-    let second = c .before .before .before in
-    let branch = second .before .before in
+    let form = c .before .before .before in
+    let branch = form .before .before in
     let test = branch .before in
     let s = entry (at-zero test) in
     let whole = sym (test .all-whole .ensures) ∙ branch .if2 .taken in
     let ready = ready-whole (s .args .size) _ (s .args .words .now) (at-exponent test .block-exponent .ensures) whole in
-    (s .pre .0, ready, search needs, omega (arith, second .put3 .ensures .moved, at-first test .put2 .ensures .moved))
+    (s .pre .0, ready, search needs, omega (arith, form .put-number .ensures .moved))
 
-put-requires-4 : tie.Need-put-requires-4
-put-requires-4 c κs = search needs
+put-number-requires-2 : tie.Need-put-number-requires-2
+put-number-requires-2 c κs = search needs
 
 put-changed-requires : tie.Need-put-changed-requires
 put-changed-requires c κs = search needs
@@ -78,14 +72,13 @@ same-length-2 c = search needs
 returns-2 : tie.Need-returns-2
 returns-2 c =
     let scaled = c .before .before in
-    let second = scaled .before .before .before .before in
-    let branch = second .before .before in
+    let form = scaled .before .before .before .before in
+    let branch = form .before .before in
     let test = branch .before in
     let a = entry (at-zero test) .args in
-    exact-whole (formatOf (a .size)) (a .d) (a .p) (a .words .now) _ (at-exponent test .block-exponent .ensures) (some test)
-    (at-first test .put2 .ensures)
-    (sym (test .all-whole .ensures) ∙ branch .if2 .taken)
-    (second .put3 .ensures)
+    let whole = sym (test .all-whole .ensures) ∙ branch .if2 .taken in
+    exact-whole (formatOf (a .size)) (a .d) (a .p) (a .words .now) _ (at-exponent test .block-exponent .ensures) (some test) whole
+    (form .put-number .ensures)
     (scaled .put-scaled .ensures)
 
 same-length-3 : tie.Need-same-length-3
@@ -94,14 +87,13 @@ same-length-3 c = search needs
 returns-3 : tie.Need-returns-3
 returns-3 c =
     let flipped = c .before .before in
-    let second = flipped .before .before .before .before in
-    let branch = second .before .before in
+    let form = flipped .before .before .before .before in
+    let branch = form .before .before in
     let test = branch .before in
     let a = entry (at-zero test) .args in
-    exact-raw (formatOf (a .size)) (a .d) (a .p) (a .words .now) _ (at-exponent test .block-exponent .ensures) (some test)
-    (at-first test .put2 .ensures)
-    (sym (test .all-whole .ensures) ∙ branch .if2 .left)
-    (second .put4 .ensures)
+    let not-whole = sym (test .all-whole .ensures) ∙ branch .if2 .left in
+    exact-raw (formatOf (a .size)) (a .d) (a .p) (a .words .now) _ (at-exponent test .block-exponent .ensures) (some test) not-whole
+    (form .put-number2 .ensures)
     (flipped .put-changed .ensures)
 
 pub put-exact-floats-spec : {M : Type 1} → statement M
@@ -113,11 +105,10 @@ put-exact-floats-spec =
     same-length
     returns
     block-exponent-requires
-    put-requires-2
     all-whole-requires
-    put-requires-3
+    put-number-requires
     put-scaled-requires
-    put-requires-4
+    put-number-requires-2
     put-changed-requires
     same-length-2
     returns-2
