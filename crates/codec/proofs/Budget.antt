@@ -20,20 +20,19 @@ take-head : (k n width : ℕ) (code : List Bool) → 1 + k ≤ width
     → true ∷ (numberBits k n ++ take (width - (1 + k)) code) ≡ take width (true ∷ (numberBits k n ++ code))
 take-head k n width code h =
     let e : width ≡ suc (length (numberBits k n) + (width - (1 + k))) = omega (arith, length-numberBits k n) in
-    sym (ap (λ (m : ℕ). take m (true ∷ (numberBits k n ++ code))) e ∙ ap {B = List Bool} (λ l. true ∷ l) (take-append-add (numberBits k n) code (width - (1 + k))))
+    let cut = ap {B = List Bool} (λ l. true ∷ l) (take-append-add (numberBits k n) code (width - (1 + k))) in
+    sym (ap (λ (m : ℕ). take m (true ∷ (numberBits k n ++ code))) e ∙ cut)
 
 one-bit : (width : ℕ) → 1 ≤ width → false ∷ [] ≡ take width (false ∷ [])
 one-bit width h = let e : width ≡ suc (width - 1) = omega arith in rw e (ap {B = List Bool} (λ l. false ∷ l) (sym (take-nil (width - 1))))
 
 lossy-floats : (f : Format) (d p width : ℕ) (ws : List ℕ) → 1 + fieldBits f ≤ width → lossyFloats f d p width ws ≡ take width (uncutFloats f d p ws)
 unfolding lossyFloats uncutFloats
-lossy-floats f d p width ws h = go (noMagnitude f ws)
+lossy-floats f d p width ws h = go (noMagnitude f ws) refl
   where
-    go : (z : Bool)
-        → cond z (false ∷ []) (true ∷ (numberBits (fieldBits f) (blockExponent f ws) ++ take (width - (1 + fieldBits f)) (lossyPlanes f d p (map (toInteger f (blockExponent f ws)) ws))))
-        ≡ take width (cond z (false ∷ []) (true ∷ (numberBits (fieldBits f) (blockExponent f ws) ++ lossyPlanes f d p (map (toInteger f (blockExponent f ws)) ws))))
-    go true = one-bit width (omega arith)
-    go false = take-head (fieldBits f) (blockExponent f ws) width (lossyPlanes f d p (map (toInteger f (blockExponent f ws)) ws)) h
+    go : (z : Bool) → noMagnitude f ws ≡ z → lossyFloats f d p width ws ≡ take width (uncutFloats f d p ws)
+    go true z = rw z (one-bit width (omega arith))
+    go false z = rw z (take-head (fieldBits f) (blockExponent f ws) width (lossyPlanes f d p (map (toInteger f (blockExponent f ws)) ws)) h)
 
 -- the defined code, from what a writer writes: all of it in exact mode, cut after the width in lossy mode
 pub code-cut : (f : Format) (float exact : Bool) (d p width : ℕ) (ws : List ℕ) → 1 + fieldBits f ≤ width

@@ -54,7 +54,8 @@ module _ (f : Format) (d : ℕ) (test : inOrder d (order d) ≡ true) where
           (true ∷ true ∷ exactIntegers f d (map (flip (wordSize f)) ws)))) ≤ 2 + fieldBits f + countBits f + (4 ^ d * wordSize f + 4 ^ d - 1)
       go true a = omega arith
       go false true =
-          let bits = numberBits (fieldBits f) (blockExponent f ws) in
-          let ints = exactIntegers f d (map (toInteger f (blockExponent f ws)) ws) in
-          omega (arith, length-append bits ints, length-numberBits (fieldBits f) (blockExponent f ws), integers-length (map (toInteger f (blockExponent f ws)) ws))
+          let e = blockExponent f ws in
+          let ints = map (toInteger f e) ws in
+          let both = length-append (numberBits (fieldBits f) e) (exactIntegers f d ints) in
+          omega (arith, both, length-numberBits (fieldBits f) e, integers-length ints)
       go false false = omega (arith, integers-length (map (flip (wordSize f)) ws))

@@ -43,5 +43,7 @@ module _ (f : Format) (d : ℕ) (test : inOrder d (order d) ≡ true) where
       let w = wordSize f in
       let N = 4 ^ d in
       let code = onesOf-code w N w (four-some d) (word-some f) (omega arith) in
+      let bits = N * w + N - 1 in
       rw (coefficients-values d test w (onesOf w N) (length-replicate N (2 ^ w - 1)) (onesOf-below w N), ones-needed, code)
-      (length-append (numberBits (countBits f) (w - 1)) (replicate (N * w + N - 1) true) ∙ ap₂ {C = ℕ} (λ x y. x + y) (length-numberBits (countBits f) (w - 1)) (length-replicate (N * w + N - 1) true))
+      (length-append (numberBits (countBits f) (w - 1)) (replicate bits true)
+      ∙ ap₂ {C = ℕ} (λ x y. x + y) (length-numberBits (countBits f) (w - 1)) (length-replicate bits true))

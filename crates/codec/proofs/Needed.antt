@@ -13,7 +13,8 @@ least-range : (w p : ℕ) (us : List ℕ) → 1 ≤ w → p ≤ w → (1 ≤ lea
 least-range w zero us h k = omega arith
 least-range w (suc p) us h k = go (any (plane (w - suc p) us)) (least-range w p us h (omega arith))
   where
-    go : (b : Bool) → (1 ≤ leastPlanes w p us) × (leastPlanes w p us ≤ w) → (1 ≤ cond b (suc p) (leastPlanes w p us)) × (cond b (suc p) (leastPlanes w p us) ≤ w)
+    go : (b : Bool) → (1 ≤ leastPlanes w p us) × (leastPlanes w p us ≤ w)
+        → (1 ≤ cond b (suc p) (leastPlanes w p us)) × (cond b (suc p) (leastPlanes w p us) ≤ w)
     go true r = omega arith
     go false r = r
 
@@ -66,7 +67,9 @@ module _ (w : ℕ) (us : List ℕ) where
 -- a search from the lowest plane up
 module _ (w p : ℕ) (us : List ℕ) (some : 0 < p) where
   step : leastPlanes w p us ≡ cond (any (plane (w - p) us)) p (leastPlanes w (p - 1) us)
-  step = let e : p ≡ suc (p - 1) = omega arith in ap (λ (n : ℕ). leastPlanes w n us) e ∙ ap (λ (n : ℕ). cond (any (plane (w - n) us)) n (leastPlanes w (p - 1) us)) (sym e)
+  step =
+      let e : p ≡ suc (p - 1) = omega arith in
+      ap (λ (n : ℕ). leastPlanes w n us) e ∙ ap (λ (n : ℕ). cond (any (plane (w - n) us)) n (leastPlanes w (p - 1) us)) (sym e)
 
   pub least-found : any (plane (w - p) us) ≡ true → leastPlanes w p us ≡ p
   least-found h = step ∙ rw h

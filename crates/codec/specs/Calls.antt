@@ -1,7 +1,7 @@
 -- What the contracts of `codec` and of the crates above it need beside document 01's definitions.
 pub mod Padded
 use mathlib.Core.Path.{_≡_}
-use mathlib.Core.Bool.{Bool, cond}
+use mathlib.Core.Bool.{Bool, true, false, cond}
 use mathlib.Core.List.{List}
 use Prim.Native.Nat.{ℕ, _+_, _*_, _^_, _≤_, _<_}
 use lib.Ieee.{Format, ones}
@@ -17,7 +17,7 @@ use Rattle.floats.specs.Integer.{toInteger, toPattern}
 use Rattle.codec.specs.declared.change.Change.{Change}
 use Rattle.codec.specs.declared.change.Change.the-variants.{ToInteger, ToPattern, Flip}
 use Rattle.codec.specs.Head.{exactPlanes}
-use Rattle.codec.specs.Code.{lossyPlanes, floatPlanes, codeBy}
+use Rattle.codec.specs.Code.{lossyPlanes, floatPlanes, exactIntegers, exactFloats}
 
 -- ---- blocks, and the bits that are read
 
@@ -62,5 +62,9 @@ integersCode f exact d p ws = coefficientsCode f exact p (coefficients (wordSize
 unfoldable pub uncutFloats : Format → ℕ → ℕ → List ℕ → List Bool
 uncutFloats f d p ws = floatPlanes f d p (λ code. code) ws
 
+-- the four defined codes with no cut
 unfoldable pub uncutCode : Format → Bool → Bool → ℕ → ℕ → List ℕ → List Bool
-uncutCode f float exact d p ws = codeBy f float exact d (uncutFloats f d p ws) (lossyPlanes f d p ws) ws
+uncutCode f false false d p ws = lossyPlanes f d p ws
+uncutCode f true false d p ws = uncutFloats f d p ws
+uncutCode f false true d p ws = exactIntegers f d ws
+uncutCode f true true d p ws = exactFloats f d ws

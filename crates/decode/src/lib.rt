@@ -1,3 +1,230 @@
-// A block read from the bits of its slot, whatever they are: document 01's "Around the planes", read.
-pub mod reader;
-pub mod verify;
+// A block, read from the bits of its slot, whatever they are. In exact mode a reader also tells whether the bits are the padded code of what it reads;
+// a lossy slot may hold any bits.
+ghost use mathlib.Core.Path.{_≡_};
+ghost use mathlib.Core.Bool.{true, false, not, _||_};
+ghost use mathlib.Core.List.{map};
+ghost use Prim.Native.Nat.{_+_, _^_, _≤_};
+ghost use lib.ListN.{length};
+ghost use lib.Seq.{slice};
+ghost use Rattle.bits.specs.Stream.{bitsOf};
+ghost use Rattle.words.specs.Word.{flip};
+ghost use Rattle.words.specs.Calls.{Size};
+ghost use Rattle.floats.specs.Pattern.{wordSize, fieldBits};
+ghost use Rattle.floats.specs.Calls.{formatOf};
+ghost use Rattle.codec.specs.Calls.{Shape, Range};
+ghost use Rattle.codec.specs.Head.{countBits};
+ghost use Rattle.codec.specs.Read.{readCoefficients, readIntegers, scaledBy, readExactFloats, readLossyFloats, readCode};
+ghost use Rattle.codec.specs.Calls.Padded.{paddedPlanes, paddedMultiples, paddedFlipped, paddedFloats, paddedBlock};
+use codec::change::Change;
+use codec::change::change_all;
+use codec::change::change_into;
+use codec::change::copy;
+use codec::change::scratch;
+use codec::head::count_bits;
+use codec::head::field_bits;
+use plane_reader::clear;
+
+// Coefficients, by mode: p planes, or as many as the head says.
+fn read_coefficients(
+    size: u32,
+    exact: bool,
+    p: u32,
+    buf: &[u8],
+    at: usize,
+    end: usize,
+    us: &mut [u64],
+) -> bool
+    requires { ⌜ Size size × (p ≤ size) × Range at (countBits (formatOf size)) end (length (now buf)) ⌝ }
+    ensures { λ r. ⌜ (now (us .exit) ≡ readCoefficients (formatOf size) exact (length (now (us .entry))) p (slice at end (bitsOf (now (buf .entry)))))
+        × (r ≡ (not exact || paddedPlanes (formatOf size) (length (now (us .entry))) (slice at end (bitsOf (now (buf .entry)))))) ⌝ }
+{
+    if exact {
+        let head = count_bits(size);
+        let count = bits::get_number(buf, at, head) + 1;
+        let read = plane_reader::read_planes(size, buf, at + head, end, us, count);
+        verify::ends(size, count, us, buf, read, end)
+    } else {
+        plane_reader::read_planes(size, buf, at, end, us, p);
+        true
+    }
+}
+
+// A block of integers.
+fn read_integers(
+    size: u32,
+    exact: bool,
+    d: u32,
+    p: u32,
+    buf: &[u8],
+    at: usize,
+    end: usize,
+    words: &mut [u64],
+) -> bool
+    requires { ⌜ Shape size d p (length (now words)) × Range at (countBits (formatOf size)) end (length (now buf)) ⌝ }
+    ensures { λ r. ⌜ (now (words .exit) ≡ readIntegers (formatOf size) exact d p (slice at end (bitsOf (now (buf .entry)))))
+        × (r ≡ (not exact || paddedPlanes (formatOf size) (4 ^ d) (slice at end (bitsOf (now (buf .entry)))))) ⌝ }
+{
+    if d == 1 {
+        let mut cs = [0u64; 4];
+        let padded = read_coefficients(size, exact, p, buf, at, end, &mut cs);
+        let v = blocks::values4(size, cs, exact);
+        copy(&v, words);
+        padded
+    } else {
+        let mut cs = [0u64; 16];
+        let padded = read_coefficients(size, exact, p, buf, at, end, &mut cs);
+        let v = blocks::values16(size, cs, exact);
+        copy(&v, words);
+        padded
+    }
+}
+
+// e, then integers in the scratch words, whose patterns at e are the words; whether the bits are so coded.
+fn read_multiples_by(
+    size: u32,
+    d: u32,
+    p: u32,
+    buf: &[u8],
+    at: usize,
+    end: usize,
+    ints: &mut [u64],
+    words: &mut [u64],
+) -> bool
+    requires { ⌜ Shape size d p (length (now words)) × (length (now ints) ≡ 4 ^ d)
+        × Range at (fieldBits (formatOf size) + countBits (formatOf size)) end (length (now buf)) ⌝ }
+    ensures { λ r. ⌜ (now (words .exit) ≡ scaledBy (formatOf size) (readIntegers (formatOf size) true d p) (slice at end (bitsOf (now (buf .entry)))))
+        × (r ≡ paddedMultiples (formatOf size) d p (slice at end (bitsOf (now (buf .entry))))) ⌝ }
+{
+    let head = field_bits(size);
+    let e = bits::get_number(buf, at, head);
+    let padded = read_integers(size, true, d, p, buf, at + head, end, ints);
+    change_into(size, Change::ToPattern(e), ints, words);
+    verify::multiples(size, e, ints, words) & padded
+}
+
+// The same, with scratch words of its own.
+fn read_multiples(
+    size: u32,
+    d: u32,
+    p: u32,
+    buf: &[u8],
+    at: usize,
+    end: usize,
+    words: &mut [u64],
+) -> bool
+    requires { ⌜ Shape size d p (length (now words))
+        × Range at (fieldBits (formatOf size) + countBits (formatOf size)) end (length (now buf)) ⌝ }
+    ensures { λ r. ⌜ (now (words .exit) ≡ scaledBy (formatOf size) (readIntegers (formatOf size) true d p) (slice at end (bitsOf (now (buf .entry)))))
+        × (r ≡ paddedMultiples (formatOf size) d p (slice at end (bitsOf (now (buf .entry))))) ⌝ }
+{
+    let mut ints = scratch();
+    let n = words.len();
+    read_multiples_by(size, d, p, buf, at, end, &mut ints[..n], words)
+}
+
+// Integers, which become their flips; whether the bits are so coded.
+fn read_flipped(
+    size: u32,
+    d: u32,
+    p: u32,
+    buf: &[u8],
+    at: usize,
+    end: usize,
+    words: &mut [u64],
+) -> bool
+    requires { ⌜ Shape size d p (length (now words)) × Range at (countBits (formatOf size)) end (length (now buf)) ⌝ }
+    ensures { λ r. ⌜ (now (words .exit) ≡ map (flip (wordSize (formatOf size)))
+        (readIntegers (formatOf size) true d p (slice at end (bitsOf (now (buf .entry))))))
+        × (r ≡ paddedFlipped (formatOf size) d p (slice at end (bitsOf (now (buf .entry))))) ⌝ }
+{
+    let padded = read_integers(size, true, d, p, buf, at, end, words);
+    change_all(size, Change::Flip, words);
+    verify::others(size, words) & padded
+}
+
+// A block of float patterns in exact mode, by its first bits.
+fn read_exact_floats(
+    size: u32,
+    d: u32,
+    p: u32,
+    buf: &[u8],
+    at: usize,
+    end: usize,
+    words: &mut [u64],
+) -> bool
+    requires { ⌜ Shape size d p (length (now words))
+        × Range at (2 + fieldBits (formatOf size) + countBits (formatOf size)) end (length (now buf)) ⌝ }
+    ensures { λ r. ⌜ (now (words .exit) ≡ readExactFloats (formatOf size) d p (slice at end (bitsOf (now (buf .entry)))))
+        × (r ≡ paddedFloats (formatOf size) d p (slice at end (bitsOf (now (buf .entry))))) ⌝ }
+{
+    if !bits::get(buf, at) {
+        clear(words);
+        return bits::no_ones(buf, at + 1, end);
+    }
+    if bits::get(buf, at + 1) {
+        read_flipped(size, d, p, buf, at + 2, end, words)
+    } else {
+        read_multiples(size, d, p, buf, at + 2, end, words)
+    }
+}
+
+// A block of float patterns in lossy mode, by its first bit; then e, and integers, which become patterns at e.
+fn read_lossy_floats(
+    size: u32,
+    d: u32,
+    p: u32,
+    buf: &[u8],
+    at: usize,
+    end: usize,
+    words: &mut [u64],
+)
+    requires { ⌜ Shape size d p (length (now words))
+        × Range at (1 + fieldBits (formatOf size) + countBits (formatOf size)) end (length (now buf)) ⌝ }
+    ensures { λ _. ⌜ now (words .exit) ≡ readLossyFloats (formatOf size) d p (slice at end (bitsOf (now (buf .entry)))) ⌝ }
+{
+    if bits::get(buf, at) {
+        read_scaled(size, d, p, buf, at + 1, end, words);
+    } else {
+        clear(words);
+    }
+}
+
+// e, then integers, which become patterns at e: a lossy block after its first bit.
+fn read_scaled(size: u32, d: u32, p: u32, buf: &[u8], at: usize, end: usize, words: &mut [u64])
+    requires { ⌜ Shape size d p (length (now words))
+        × Range at (fieldBits (formatOf size) + countBits (formatOf size)) end (length (now buf)) ⌝ }
+    ensures { λ _. ⌜ now (words .exit) ≡ scaledBy (formatOf size) (readIntegers (formatOf size) false d p) (slice at end (bitsOf (now (buf .entry)))) ⌝ }
+{
+    let head = field_bits(size);
+    let e = bits::get_number(buf, at, head);
+    read_integers(size, false, d, p, buf, at + head, end, words);
+    change_all(size, Change::ToPattern(e), words);
+}
+
+// The words of a block of dimension d, by kind and mode, from the bits of its slot: p planes if it is lossy.
+pub fn read_block(
+    size: u32,
+    float: bool,
+    exact: bool,
+    d: u32,
+    p: u32,
+    buf: &[u8],
+    at: usize,
+    end: usize,
+    words: &mut [u64],
+) -> bool
+    requires { ⌜ Shape size d p (length (now words))
+        × Range at (2 + fieldBits (formatOf size) + countBits (formatOf size)) end (length (now buf)) ⌝ }
+    ensures { λ r. ⌜ (now (words .exit) ≡ readCode (formatOf size) float exact d p (slice at end (bitsOf (now (buf .entry)))))
+        × (r ≡ (not exact || paddedBlock (formatOf size) float d p (slice at end (bitsOf (now (buf .entry)))))) ⌝ }
+{
+    if !float {
+        return read_integers(size, exact, d, p, buf, at, end, words);
+    }
+    if exact {
+        read_exact_floats(size, d, p, buf, at, end, words)
+    } else {
+        read_lossy_floats(size, d, p, buf, at, end, words);
+        true
+    }
+}

@@ -1,0 +1,17 @@
+-- What making integers asks of each word, of a block at its own exponent.
+use mathlib.Core.Path.{_≡_}
+use mathlib.Core.Bool.{true, false}
+use mathlib.Core.List.{List}
+use Prim.Native.Nat.{ℕ}
+use Rattle.floats.specs.Calls.{formatOf}
+use Rattle.floats.specs.Block.{blockExponent, anySpecial, allWhole}
+use Rattle.floats.proofs.Blocks.{fields-ready, whole-none-special}
+use Rattle.codec.specs.declared.change.Change.the-variants.{ToInteger}
+use Rattle.codec.specs.Calls.{Ready}
+
+module _ (w e : ℕ) (ws : List ℕ) (own : e ≡ blockExponent (formatOf w) ws) where
+  pub ready-finite : anySpecial (formatOf w) ws ≡ false → Ready w (ToInteger e) ws
+  ready-finite h = rw own (fields-ready (formatOf w) ws h)
+
+  pub ready-whole : allWhole (formatOf w) e ws ≡ true → Ready w (ToInteger e) ws
+  ready-whole h = ready-finite (whole-none-special (formatOf w) e ws h)

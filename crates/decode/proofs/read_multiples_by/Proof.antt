@@ -1,0 +1,83 @@
+-- e, then the integers, of which the words are the patterns. Assumes nothing.
+use Rattle.decode.proofs.Steps.{exponent-read, scaled-read, multiples-read}
+use Rattle.bits.proofs.StreamLaws.{length-bitsOf}
+use Rattle.bits.specs.Stream.{bitsOf}
+use Rattle.floats.specs.Calls.{formatOf}
+use native.Mathlib.Omega.{arith}
+use mathlib.Core.Bool.{true}
+use borrow.Author.Needs.{needs}
+use Rattle.decode.proofs.read_multiples_by.Statement.{statement}
+use Rattle.decode.proofs.read_multiples_by.Tie as tie
+
+-- e seen from the integers, the integers from the patterns, and the entry from there
+abbrev at-exponent : tie.After-read-integers → tie.After-get-number
+at-exponent c = c .before .before
+
+abbrev at-integers : tie.After-change-into → tie.After-read-integers
+at-integers c = c .before .before .before .before .before
+
+abbrev entry : tie.After-read-integers → tie.Start
+entry c = at-exponent c .before .before .before .before .before
+
+field-bits-requires : tie.Need-field-bits-requires
+field-bits-requires c κs = search needs
+
+get-number-requires : tie.Need-get-number-requires
+get-number-requires c κs = search needs
+
+add-read-integers : tie.Need-add-read-integers
+add-read-integers c = search needs
+
+read-integers-requires : tie.Need-read-integers-requires
+read-integers-requires c κs = search needs
+
+change-into-requires : tie.Need-change-into-requires
+change-into-requires c κs =
+    let ints = c .before .before .before .before in
+    let get = at-exponent ints in
+    let field = get .before .field-bits .ensures in
+    let s = entry ints in
+    let a = s .args in
+    let small = exponent-read (formatOf (a .size)) (a .d) (a .p) (bitsOf (a .buf .now)) (a .at) (a .end) _ _ (field .0) (get .get-number .ensures)
+    (omega (arith, field, length-bitsOf (a .buf .now))) (field .2) in
+    (s .pre .0 .sized, λ i h. small, search needs)
+
+multiples-requires : tie.Need-multiples-requires
+multiples-requires c κs = search needs
+
+same-length : tie.Need-same-length
+same-length c = search needs
+
+same-length-2 : tie.Need-same-length-2
+same-length-2 c = search needs
+
+returns : tie.Need-returns
+returns c =
+    let change = c .before .before .before .before .before in
+    let ints = at-integers change in
+    let get = at-exponent ints in
+    let field = get .before .field-bits .ensures in
+    let s = entry ints in
+    let a = s .args in
+    let f = formatOf (a .size) in
+    let bs = bitsOf (a .buf .now) in
+    let read = ints .read-integers .ensures in (
+      scaled-read f (a .d) (a .p) bs (a .at) (a .end) _ _ (field .0) (get .get-number .ensures) (omega (arith, field .0, s .pre .2 .room)) true
+          (read .0) (change .change-into .ensures),
+      multiples-read f (a .d) (a .p) bs (a .at) (a .end) _ _ (field .0) (get .get-number .ensures) (omega (arith, field .0, s .pre .2 .room))
+          (read .0) (c .multiples .ensures) (read .1),
+    )
+
+pub read-multiples-by-spec : {M : Type 1} → statement M
+read-multiples-by-spec =
+    tie.close
+    (tie.spec
+    field-bits-requires
+    get-number-requires
+    add-read-integers
+    read-integers-requires
+    change-into-requires
+    multiples-requires
+    same-length
+    same-length-2
+    returns)

@@ -1,0 +1,65 @@
+-- e, then the integers, which become patterns. Assumes nothing.
+use Rattle.decode.proofs.Steps.{exponent-read, scaled-read}
+use Rattle.bits.proofs.StreamLaws.{length-bitsOf}
+use Rattle.bits.specs.Stream.{bitsOf}
+use Rattle.floats.specs.Calls.{formatOf}
+use native.Mathlib.Omega.{arith}
+use mathlib.Core.Bool.{false}
+use borrow.Author.Needs.{needs}
+use Rattle.decode.proofs.read_scaled.Statement.{statement}
+use Rattle.decode.proofs.read_scaled.Tie as tie
+
+-- e seen from the integers, and the entry from there
+abbrev at-exponent : tie.After-read-integers → tie.After-get-number
+at-exponent c = c .before .before
+
+abbrev entry : tie.After-read-integers → tie.Start
+entry c = at-exponent c .before .before .before .before
+
+field-bits-requires : tie.Need-field-bits-requires
+field-bits-requires c κs = search needs
+
+get-number-requires : tie.Need-get-number-requires
+get-number-requires c κs = search needs
+
+add-read-integers : tie.Need-add-read-integers
+add-read-integers c = search needs
+
+read-integers-requires : tie.Need-read-integers-requires
+read-integers-requires c κs = search needs
+
+change-all-requires : tie.Need-change-all-requires
+change-all-requires c κs =
+    let ints = c .before .before .before in
+    let get = at-exponent ints in
+    let field = get .before .field-bits .ensures in
+    let s = entry ints in
+    let a = s .args in
+    let small = exponent-read (formatOf (a .size)) (a .d) (a .p) (bitsOf (a .buf .now)) (a .at) (a .end) _ _ (field .0) (get .get-number .ensures)
+    (omega (arith, field, length-bitsOf (a .buf .now))) (field .2) in
+    (s .pre .0 .sized, λ i h. small)
+
+same-length : tie.Need-same-length
+same-length c = search needs
+
+returns : tie.Need-returns
+returns c =
+    let change = c .before .before in
+    let ints = change .before .before .before .before in
+    let get = at-exponent ints in
+    let field = get .before .field-bits .ensures in
+    let a = entry ints .args in
+    scaled-read (formatOf (a .size)) (a .d) (a .p) (bitsOf (a .buf .now)) (a .at) (a .end) _ _ (field .0) (get .get-number .ensures)
+    (omega (arith, field)) false (ints .read-integers .ensures .0) (change .change-all .ensures)
+
+pub read-scaled-spec : {M : Type 1} → statement M
+read-scaled-spec =
+    tie.close
+    (tie.spec
+    field-bits-requires
+    get-number-requires
+    add-read-integers
+    read-integers-requires
+    change-all-requires
+    same-length
+    returns)

@@ -1,0 +1,30 @@
+-- By mode. Assumes nothing.
+use Rattle.codec.proofs.Sizes.{sized}
+use borrow.Author.Needs.{needs}
+use Rattle.encode.proofs.put_coefficients.Statement.{statement}
+use Rattle.encode.proofs.put_coefficients.Tie as tie
+
+put-exact-planes-requires : tie.Need-put-exact-planes-requires
+put-exact-planes-requires c κs = search needs
+
+put-planes-requires : tie.Need-put-planes-requires
+put-planes-requires c κs = search needs
+
+same-length : tie.Need-same-length
+same-length c = search needs
+
+returns : tie.Need-returns
+returns c = rw (c .before .before .before .before .if1 .taken) (c .before .before .put-exact-planes .ensures)
+
+same-length-2 : tie.Need-same-length-2
+same-length-2 c = search needs
+
+returns-2 : tie.Need-returns-2
+returns-2 c =
+    let s = c .before .before .before .before .before .before .before in
+    rw (c .before .before .before .before .if1 .left, sized (s .args .size) (s .pre .0) .size) (c .before .before .put-planes .ensures)
+
+pub put-coefficients-spec : {M : Type 1} → statement M
+put-coefficients-spec =
+    tie.close
+    (tie.spec put-exact-planes-requires put-planes-requires same-length returns same-length-2 returns-2)

@@ -1,0 +1,60 @@
+-- The head, then the planes. Assumes nothing.
+use Rattle.codec.proofs.Needed.{needed-range}
+use Rattle.codec.specs.Head.{exactPlanes}
+use Rattle.bits.proofs.WriteLaws.{written-append}
+use Rattle.bits.proofs.NumberLaws.{length-numberBits}
+use native.Mathlib.Omega.{arith}
+use Prim.Native.Nat.{_-_}
+use Rattle.codec.proofs.Sizes.{sized}
+use borrow.Author.Needs.{needs}
+use Rattle.encode.proofs.put_exact_planes.Statement.{statement}
+use Rattle.encode.proofs.put_exact_planes.Tie as tie
+
+planes-needed-requires : tie.Need-planes-needed-requires
+planes-needed-requires c κs = search needs
+
+sub-put-number : tie.Need-sub-put-number
+sub-put-number c =
+    let s = c .before .before .before .before in
+    omega (arith, c .before .planes-needed .ensures, needed-range (s .args .size) (s .args .us .now) (omega arith))
+
+count-bits-requires : tie.Need-count-bits-requires
+count-bits-requires c κs = search needs
+
+put-number-requires : tie.Need-put-number-requires
+put-number-requires c κs = search needs
+
+put-planes-requires : tie.Need-put-planes-requires
+put-planes-requires c κs =
+    let number = c .before .before .before in
+    let k = number .before in
+    let needed = k .before .before in
+    let s = needed .before .before .before in
+    let range = needed-range (s .args .size) (s .args .us .now) (omega arith) in
+    let bits = length-numberBits (k .count-bits .result) (needed .planes-needed .result - 1) in
+    omega (arith, needed .planes-needed .ensures, range, number .put-number .ensures .moved, bits, k .count-bits .ensures .1)
+
+same-length : tie.Need-same-length
+same-length c = search needs
+
+returns : tie.Need-returns
+unfolding exactPlanes
+returns c =
+    let number = c .before .before .before .before .before .before in
+    let k = number .before in
+    let needed = k .before .before in
+    let s = needed .before .before .before in
+    rw (sized (s .args .size) (s .pre .0) .size, ← (needed .planes-needed .ensures), ← (k .count-bits .ensures .0))
+    (written-append (number .put-number .ensures) (c .before .before .put-planes .ensures))
+
+pub put-exact-planes-spec : {M : Type 1} → statement M
+put-exact-planes-spec =
+    tie.close
+    (tie.spec
+    planes-needed-requires
+    sub-put-number
+    count-bits-requires
+    put-number-requires
+    put-planes-requires
+    same-length
+    returns)
