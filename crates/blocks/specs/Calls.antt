@@ -3,7 +3,8 @@ use mathlib.Core.List.{List, []}
 use Prim.Native.Nat.{ℕ, _*_, _/_, _%_}
 use lib.ListN.{getD}
 use Rattle.blocks.specs.Four.{Transform}
-use Rattle.blocks.specs.Axes.{tabulate, line}
+use Rattle.order.specs.Lists.{tabulate}
+use Rattle.blocks.specs.Axes.{line}
 
 -- t of four values in a list
 abbrev pub onFour : Transform → List ℕ → List ℕ

@@ -1,6 +1,5 @@
 -- The definitions that the contracts of `blocks` cite.
 pub mod Four
 pub mod Axes
-pub mod Order
 pub mod Coefficients
 pub mod Calls

@@ -9,8 +9,8 @@ use Rattle.bits.specs.Stream.{numberBits}
 use Rattle.words.specs.Word.{flip}
 use Rattle.floats.specs.Pattern.{wordSize, exponentField, fieldBits}
 use Rattle.floats.specs.Integer.{toInteger}
-use Rattle.floats.specs.Block.{blockExponent, anySpecial, noMagnitude, allZero, allWhole}
-use Rattle.floats.proofs.Blocks.{fields-ready, whole-none-special}
+use Rattle.float_blocks.specs.Block.{blockExponent, anySpecial, noMagnitude, allZero, allWhole}
+use Rattle.float_blocks.proofs.Blocks.{fields-ready, whole-none-special}
 use Rattle.codec.specs.Code.{exactIntegers, exactFloats}
 use Rattle.codec.specs.Calls.{integersCode, uncutFloats, uncutCode}
 

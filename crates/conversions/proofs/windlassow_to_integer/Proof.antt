@@ -1,6 +1,6 @@
 -- By the guards. Assumes nothing.
 use Rattle.conversions.specs.Guarded.{integerAt}
-use Rattle.floats.proofs.RoundTrip.{integer-lt}
+use Rattle.floats.proofs.Magnitudes.{integer-lt}
 use lib.Ieee.{binary32}
 use borrow.Author.Tests.{lt-ltb, le-ltb}
 use borrow.Author.Needs.{needs}

@@ -1,6 +1,6 @@
 -- By dimension: its coefficients, then its values. Assumes nothing.
 use Rattle.blocks.proofs.Whole.{length-values}
-use Rattle.blocks.proofs.Orders.{line-in-order, square-in-order}
+use Rattle.order.proofs.Orders.{line-in-order, square-in-order}
 use lib.ListN.{length}
 use native.Mathlib.Omega.{arith}
 use Prim.Native.Nat.{ℕ, _^_}

@@ -3,7 +3,7 @@ use Rattle.decode.proofs.PaddedSteps.{multiples-read, multiples-cut}
 use Rattle.codec.specs.Calls.Padded.{paddedPlanes}
 use Rattle.codec.specs.Read.{readIntegers}
 use Rattle.floats.specs.Calls.{formatOf}
-use Rattle.floats.specs.Integer.{toPattern}
+use Rattle.rounding.specs.Rounded.{toPattern}
 use Rattle.bits.proofs.StreamLaws.{length-bitsOf, slice-first, slice-rest, number-lt}
 use Rattle.bits.specs.Stream.{bitsOf, numberOf}
 use lib.ListN.{take, drop}

@@ -2,8 +2,8 @@
 use Rattle.decode.proofs.PaddedSteps.{multiples-zero, multiples-not, multiples-by}
 use Rattle.codec.specs.Calls.Padded.{sameWords}
 use Rattle.floats.specs.Integer.{toInteger}
-use Rattle.floats.specs.Block.{blockExponent, allZero, allWhole}
-use Rattle.floats.proofs.Blocks.{whole-none-special, fields-ready}
+use Rattle.float_blocks.specs.Block.{blockExponent, allZero, allWhole}
+use Rattle.float_blocks.proofs.Blocks.{whole-none-special, fields-ready}
 use Rattle.floats.specs.Calls.{formatOf}
 use lib.ListN.{length, length-map}
 use Prim.Native.Nat.{ℕ}

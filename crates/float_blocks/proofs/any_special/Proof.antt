@@ -1,0 +1,52 @@
+-- `float_blocks::any_special` meets its contract: what is asked of the words from i on is what is asked of all.
+use mathlib.Core.Path.{_≡_}
+use Prim.Native.Nat.{_-_, _≤_}
+use mathlib.Core.Path.{sym, ap, _∙_}
+use borrow.Author.Tests.{eq-eqb, ne-eqb}
+use lib.Ieee.{binary32}
+use Rattle.floats.specs.Pattern.{special, exponentField}
+use Rattle.float_blocks.specs.Block.{anySpecial}
+use lib.ListN.{length, drop}
+use borrow.Author.Needs.{needs}
+use Rattle.float_blocks.proofs.Blocks.{some-more, some-found, some-end}
+use Rattle.float_blocks.proofs.any_special.Statement.{statement}
+use Rattle.float_blocks.proofs.any_special.Tie as tie
+
+abbrev Inv-loop : tie.InvT-loop
+Inv-loop ws i₀ i = (i ≤ length ws) × (anySpecial binary32 (drop i ws) ≡ anySpecial binary32 ws)
+
+abbrev μ-loop : tie.MeasureT-loop
+μ-loop ws i₀ i = length ws - i
+
+loop-holds : tie.Need-loop-holds Inv-loop μ-loop
+loop-holds c = search needs
+
+mul-wide : tie.Need-mul-wide Inv-loop μ-loop
+mul-wide c = search needs
+
+shared-slice-read-wide : tie.Need-shared-slice-read-wide Inv-loop μ-loop
+shared-slice-read-wide c = search needs
+
+wide-requires : tie.Need-wide-requires Inv-loop μ-loop
+wide-requires c κs = search needs
+
+exponent-field-requires : tie.Need-exponent-field-requires Inv-loop μ-loop
+exponent-field-requires c κs = search needs
+
+returns : tie.Need-returns Inv-loop μ-loop
+returns c = let l = c .before .before .before .before in some-found (special binary32) (l .before .before .before .args .ws .now) (l .before .loop .i) (l .loop-test .taken) (l .before .loop .inv .1) (eq-eqb _ 255 (sym (c .before .exponent-field .ensures .0 ∙ ap (exponentField binary32) (c .before .before .wide .ensures)) ∙ c .if1 .taken))
+
+add-i : tie.Need-add-i Inv-loop μ-loop
+add-i c = search needs
+
+loop-less : tie.Need-loop-less Inv-loop μ-loop
+loop-less c = search needs
+
+loop-again : tie.Need-loop-again Inv-loop μ-loop
+loop-again c = let l = c .before .before .before .before in (search needs, some-more (special binary32) (l .before .before .before .args .ws .now) (l .before .loop .i) (l .loop-test .taken) (l .before .loop .inv .1) (ne-eqb _ 255 (λ z. c .if1 .left (c .before .exponent-field .ensures .0 ∙ ap (exponentField binary32) (c .before .before .wide .ensures) ∙ z))))
+
+returns-2 : tie.Need-returns-2 Inv-loop μ-loop
+returns-2 c = some-end (special binary32) (c .before .before .before .args .ws .now) (c .before .loop .i) (c .loop-test .left) (c .before .loop .inv .1)
+
+pub any-special-spec : {M : Type 1} → statement M
+any-special-spec = tie.close (tie.spec Inv-loop μ-loop loop-holds mul-wide shared-slice-read-wide wide-requires exponent-field-requires returns add-i loop-less loop-again returns-2)
