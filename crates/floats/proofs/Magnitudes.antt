@@ -54,7 +54,8 @@ module _ (f : Format) (e w : ℕ) (above : exponentField f w < e) where
   raised-lt =
       div-lt-iff-lt-mul (pow-pos e) .1
       (lt-of-lt-of-le (parts-of f w .bound)
-      (le-trans (pow-mono {i = exponentField f w + (wordSize f - 1)} {j = wordSize f - 2 + e} (omega (arith, size-split f, two f))) (le-of-eq (pow-add 2 (wordSize f - 2) e))))
+      (le-trans (pow-mono {i = exponentField f w + (wordSize f - 1)} {j = wordSize f - 2 + e} (omega (arith, size-split f, two f)))
+      (le-of-eq (pow-add 2 (wordSize f - 2) e))))
 
   pub quarter : 2 ^ (wordSize f - 2) < top f
   quarter = subst (λ (x : ℕ). 2 ^ (wordSize f - 2) < x) (sym (top-is f)) (pow-lt (omega (arith, size-split f, two f)))

@@ -37,8 +37,9 @@ module _ (f : Format) where
       go : (g ≡ 0) ⊎ (0 < g) → signed f (negative f (minus (wordSize f) 0 g)) (minus (wordSize f) 0 g) ≡ g
       go (inl z) = rw (z, negated-zero, lt-leb (top f) 0 top-pos)
       go (inr p) =
-          let b : leb (top f) (2 ^ wordSize f - g) ≡ true = le-leb (top f) (2 ^ wordSize f - g) (omega (arith, twice-top f)) in
-          let m : minus (wordSize f) 0 (2 ^ wordSize f - g) ≡ g = negated (2 ^ wordSize f - g) (omega (arith, twice-top f)) (omega (arith, twice-top f)) ∙ omega (arith, twice-top f) in
+          let n = 2 ^ wordSize f - g in
+          let b : leb (top f) n ≡ true = le-leb (top f) n (omega (arith, twice-top f)) in
+          let m : minus (wordSize f) 0 n ≡ g = negated n (omega (arith, twice-top f)) (omega (arith, twice-top f)) ∙ omega (arith, twice-top f) in
           rw (negated g p (omega (arith, twice-top f)), b) m
 
   -- and so does its sign, where the word is not 0

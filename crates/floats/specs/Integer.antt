@@ -6,7 +6,8 @@ use lib.Ieee.{Float, nan, inf, fin, Format, emax, up, down, ofBits}
 use Rattle.words.specs.Word.{minus}
 use Rattle.floats.specs.Pattern.{wordSize, special, minusZero}
 
--- document 01's factor 2 ^ (30 - m), with m = e - 127, is 2 ^ 157 / 2 ^ e: its 30 is the word size less 2, its 127 the bias. At 64 bits 2 ^ (62 - m) is 2 ^ 1085 / 2 ^ e
+-- document 01's factor 2 ^ (30 - m), with m = e - 127, is 2 ^ 157 / 2 ^ e: its 30 is the word size less 2, its 127 the bias.
+-- At 64 bits 2 ^ (62 - m) is 2 ^ 1085 / 2 ^ e
 abbrev pub scale : Format → ℕ
 scale f = wordSize f - 2 + emax f
 

@@ -4,7 +4,8 @@ use mathlib.Core.Path.{_≡_, refl, sym, ap, ap₂, _∙_, subst}
 use mathlib.Core.Logic.{_⊎_, inl, inr}
 use mathlib.Core.Bool.{Bool, true, false, not, cond}
 use Prim.Native.Nat.{ℕ, zero, suc, _+_, _-_, _*_, _/_, _^_, _≤_, _<_, min}
-use native.Mathlib.Nat.{le-refl, le-trans, le-of-eq, le-antisymm, lt-of-lt-of-le, lt-of-le-of-lt, not-le-of-lt, eq-or-lt-of-le, mul-le-mul-right, mul-one, one-mul, add-mul, mul-div-cancel, div-one, min-eq-left, min-eq-right, add-assoc}
+use native.Mathlib.Nat.{le-refl, le-trans, le-of-eq, le-antisymm, lt-of-lt-of-le, lt-of-le-of-lt, not-le-of-lt, eq-or-lt-of-le}
+use native.Mathlib.Nat.{mul-le-mul-right, mul-one, one-mul, add-mul, mul-div-cancel, div-one, min-eq-left, min-eq-right, add-assoc}
 use native.Mathlib.Omega.{arith}
 use lib.Dec.{T, ltb, ltb→lt, nltb→le}
 use lib.Pow.{pow-add, pow-mono, pow-pos, pow-lt, shl-lt}
@@ -116,7 +117,8 @@ module _ (f : Format) (q k : ℕ) (le : q ≤ 2 ^ prec f) (all : 0 < k → hid f
         | inl c ↦ under (hid f) k (ones f) q (omega (arith, c .1, emax-pos f)) (omega (arith, c .0))
         | inr (inl c) ↦
             let z : prec f - 1 + k < low f + suc (emax f) =
-            pow-lt-back (prec f - 1 + k) (low f + suc (emax f)) (lt-of-le-of-lt (le-trans (le-of-eq (pow-add 2 (prec f - 1) k)) (mul-le-mul-right (2 ^ k) (c .0))) h) in
+            pow-lt-back (prec f - 1 + k) (low f + suc (emax f))
+            (lt-of-le-of-lt (le-trans (le-of-eq (pow-add 2 (prec f - 1) k)) (mul-le-mul-right (2 ^ k) (c .0))) h) in
             under (hid f) k (ones f) q (omega (arith, two f)) (omega (arith, c .1, twice-hid f))
         | inr (inr c) ↦
             let z : prec f + k < low f + suc (emax f) =
@@ -145,7 +147,9 @@ module _ (f : Format) (q k : ℕ) (le : q ≤ 2 ^ prec f) (all : 0 < k → hid f
           (le-trans h (le-of-eq (ap (λ (x : ℕ). q * 2 ^ x) e ∙ mul-one q)))
 
   pub pattern : (s : Bool) → toBits f (units f s q k) ≡ sign f s + min (k * hid f + q) (ones f * hid f)
-  pattern s = go (ltb (q * 2 ^ k) (2 ^ (low f + suc (emax f)))) (ltb→lt (q * 2 ^ k) (2 ^ (low f + suc (emax f)))) (nltb→le (q * 2 ^ k) (2 ^ (low f + suc (emax f))))
+  pattern s =
+      let n = 2 ^ (low f + suc (emax f)) in
+      go (ltb (q * 2 ^ k) n) (ltb→lt (q * 2 ^ k) n) (nltb→le (q * 2 ^ k) n)
     where
       go : (b : Bool) → (T b → q * 2 ^ k < 2 ^ (low f + suc (emax f))) → (T (not b) → 2 ^ (low f + suc (emax f)) ≤ q * 2 ^ k)
           → toBits f (units f s q k) ≡ sign f s + min (k * hid f + q) (ones f * hid f)

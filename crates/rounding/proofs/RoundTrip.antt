@@ -29,7 +29,8 @@ unfolding scaled
 exact f s g e q y h few all low-enough =
     ap (toBits f)
     (round-same f s (g * 2 ^ e) (2 ^ scale f) (q * 2 ^ y) (2 ^ low f) (pow-pos (scale f)) (pow-pos (low f))
-    (ap (λ (x : ℕ). x * 2 ^ low f) h ∙ mul-pow q (y + fieldBits f) (low f) ∙ ap (λ (x : ℕ). q * 2 ^ x) (sum (scale f) (low f) (scale-split f)) ∙ sym (mul-pow q y (scale f))))
+    (ap (λ (x : ℕ). x * 2 ^ low f) h ∙ mul-pow q (y + fieldBits f) (low f)
+    ∙ ap (λ (x : ℕ). q * 2 ^ x) (sum (scale f) (low f) (scale-split f)) ∙ sym (mul-pow q y (scale f))))
     ∙ valued f (round f s (q * 2 ^ y) (2 ^ low f)) s (q * 2 ^ y)
     (round-exact f s (q * 2 ^ y) (2 ^ low f) q y (pow-pos (low f)) few
     (lt-of-lt-of-le (shl-lt (prec f) y few) (pow-mono {i = prec f + y} {j = low f + suc (emax f)} (omega (arith, two f, emax-pos f)))) refl)
@@ -43,7 +44,8 @@ sign-rest f w h = go (leb (top f) w) (leb→le (top f) w) (nleb→lt (top f) w)
   where
     go : (b : Bool) → (T b → top f ≤ w) → (T (not b) → w < top f) → sign f b + w % top f ≡ w
     go true l k =
-        ap (λ (x : ℕ). top f + x % top f) (omega (arith, l tt)) ∙ ap (λ (x : ℕ). top f + x) (add-mod-right (w - top f) (top f) ∙ mod-eq-of-lt (omega (arith, twice-top f)))
+        ap (λ (x : ℕ). top f + x % top f) (omega (arith, l tt))
+        ∙ ap (λ (x : ℕ). top f + x) (add-mod-right (w - top f) (top f) ∙ mod-eq-of-lt (omega (arith, twice-top f)))
         ∙ omega (arith, l tt)
     go false l k = zero-add (w % top f) ∙ mod-eq-of-lt (k tt)
 
@@ -85,7 +87,8 @@ module _ (f : Format) (e w : ℕ) (above : exponentField f w < e) where
       go h p =
           let s = negative f w in
           let g = raised f w / 2 ^ e in
-          let back : g * 2 ^ e ≡ raised f w = sym (add-zero (g * 2 ^ e)) ∙ ap (λ (y : ℕ). g * 2 ^ e + y) (sym (h .no-rest)) ∙ div-add-mod' (raised f w) (2 ^ e) in
+          let back : g * 2 ^ e ≡ raised f w =
+          sym (add-zero (g * 2 ^ e)) ∙ ap (λ (y : ℕ). g * 2 ^ e + y) (sym (h .no-rest)) ∙ div-add-mod' (raised f w) (2 ^ e) in
           let rest : digitPlace f w * hid f + digits f w ≡ w % top f = p .total ∙ sym (by-fields f w) in
           let fits : g < top f = lt-trans (raised-lt f e w above) (quarter f e w above) in
           let some : s ≡ true → 0 < g = λ n. positive word n (h .not-minus-zero) g back in

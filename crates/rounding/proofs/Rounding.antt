@@ -2,7 +2,8 @@
 use mathlib.Core.Path.{_≡_, sym, ap, _∙_}
 use mathlib.Core.Bool.{Bool}
 use Prim.Native.Nat.{ℕ, suc, _+_, _-_, _*_, _/_, _%_, _^_, _≤_, _<_, min, compare}
-use native.Mathlib.Nat.{le-trans, le-of-eq, lt-of-lt-of-le, mul-assoc, mul-le-mul-right, mul-pos, div-lt-iff-lt-mul, le-div-iff-mul-le, min-eq-left, zero-mul, zero-add, mul-one, mul-comm, mul-le-mul-left, mul-lt-mul-of-pos-right}
+use native.Mathlib.Nat.{le-trans, le-of-eq, lt-of-lt-of-le, div-lt-iff-lt-mul, le-div-iff-mul-le, min-eq-left, zero-mul, zero-add}
+use native.Mathlib.Nat.{mul-assoc, mul-le-mul-right, mul-pos, mul-one, mul-comm, mul-le-mul-left, mul-lt-mul-of-pos-right}
 use native.Mathlib.Omega.{arith}
 use lib.Pow.{pow-add, pow-pos, shl-lt}
 use lib.Ieee.{Format, prec, low, hid, ones, size, units, toBits}
@@ -44,20 +45,24 @@ module _ (f : Format) (s : Bool) (g e : ℕ) where
   -- at most `prec` digits stand above it: the value is rounded to a whole number of smallest values
   module _ (few : g * 2 ^ e < 2 ^ wordSize f) where
     quotient-lt : g * 2 ^ e / 2 ^ fieldBits f < 2 ^ prec f
-    quotient-lt = div-lt-iff-lt-mul (pow-pos (fieldBits f)) .1 (lt-of-lt-of-le few (le-of-eq (ap (λ (x : ℕ). 2 ^ x) (size-split f) ∙ pow-add 2 (prec f) (fieldBits f))))
+    quotient-lt =
+        div-lt-iff-lt-mul (pow-pos (fieldBits f)) .1
+        (lt-of-lt-of-le few (le-of-eq (ap (λ (x : ℕ). 2 ^ x) (size-split f) ∙ pow-add 2 (prec f) (fieldBits f))))
 
     pub tiny-le : closest (g * 2 ^ e) (2 ^ fieldBits f) ≤ 2 ^ prec f
     tiny-le = closest-le (g * 2 ^ e) (2 ^ fieldBits f) (2 ^ prec f) quotient-lt
 
     pub tiny : scaled f s g e ≡ sign f s + closest (g * 2 ^ e) (2 ^ fieldBits f)
     tiny =
+        let n = closest (g * 2 ^ e) (2 ^ fieldBits f) in
         dropping 0 (omega (arith, size-le (g * 2 ^ e / 2 ^ fieldBits f) (prec f) quotient-lt))
         ∙ ap (λ (q : ℕ). toBits f (units f s q 0))
-        (closest-same (g * 2 ^ e * 2 ^ low f) (2 ^ scale f * 2 ^ 0) (g * 2 ^ e) (2 ^ fieldBits f) (mul-pos (pow-pos (scale f)) (pow-pos 0)) (pow-pos (fieldBits f))
+        (closest-same (g * 2 ^ e * 2 ^ low f) (2 ^ scale f * 2 ^ 0) (g * 2 ^ e) (2 ^ fieldBits f)
+        (mul-pos (pow-pos (scale f)) (pow-pos 0)) (pow-pos (fieldBits f))
         (crossed ∙ ap (λ (x : ℕ). g * 2 ^ e * x) (sym (mul-one (2 ^ scale f)))))
-        ∙ pattern f (closest (g * 2 ^ e) (2 ^ fieldBits f)) 0 tiny-le (λ z. absurd (omega arith)) s
+        ∙ pattern f n 0 tiny-le (λ z. absurd (omega arith)) s
         ∙ ap (λ (x : ℕ). sign f s + x)
-        (ap (λ (x : ℕ). min x (ones f * hid f)) (ap (λ (x : ℕ). x + closest (g * 2 ^ e) (2 ^ fieldBits f)) (zero-mul (hid f)) ∙ zero-add (closest (g * 2 ^ e) (2 ^ fieldBits f)))
+        (ap (λ (x : ℕ). min x (ones f * hid f)) (ap (λ (x : ℕ). x + n) (zero-mul (hid f)) ∙ zero-add n)
         ∙ min-eq-left (le-trans tiny-le (le-trans (le-of-eq (twice-hid f)) (two-hid-le f))))
 
   -- more do: with l digits in g, the `prec` leading ones are kept

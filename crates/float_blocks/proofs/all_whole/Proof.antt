@@ -32,8 +32,9 @@ whole-requires c κs = search needs
 returns : tie.Need-returns Inv-loop μ-loop
 returns c =
     let l = c .before .before .before in
+    let h = l .before .loop in
     let a = l .before .before .before .args in
-    every-not (whole (formatOf (a .size)) (a .e)) (a .ws .now) (l .before .loop .i) (l .loop-test .taken) (l .before .loop .inv .1) (sym (c .before .whole .ensures) ∙ not-true _ (c .if1 .taken))
+    every-not (whole (formatOf (a .size)) (a .e)) (a .ws .now) (h .i) (l .loop-test .taken) (h .inv .1) (sym (c .before .whole .ensures) ∙ not-true _ (c .if1 .taken))
 
 add-i : tie.Need-add-i Inv-loop μ-loop
 add-i c = search needs
@@ -44,9 +45,10 @@ loop-less c = search needs
 loop-again : tie.Need-loop-again Inv-loop μ-loop
 loop-again c =
     let l = c .before .before .before in
+    let h = l .before .loop in
     let a = l .before .before .before .args in (
       search needs,
-      every-more (whole (formatOf (a .size)) (a .e)) (a .ws .now) (l .before .loop .i) (l .loop-test .taken) (l .before .loop .inv .1) (sym (c .before .whole .ensures) ∙ not-false _ (c .if1 .left)),
+      every-more (whole (formatOf (a .size)) (a .e)) (a .ws .now) (h .i) (l .loop-test .taken) (h .inv .1) (sym (c .before .whole .ensures) ∙ not-false _ (c .if1 .left)),
     )
 
 returns-2 : tie.Need-returns-2 Inv-loop μ-loop

@@ -26,7 +26,10 @@ shared-slice-read-if1 : tie.Need-shared-slice-read-if1 Inv-loop μ-loop
 shared-slice-read-if1 c = search needs
 
 returns : tie.Need-returns Inv-loop μ-loop
-returns c = let l = c .before .before in every-not (λ w. eqb w 0) (l .before .before .args .ws .now) (l .before .loop .i) (l .loop-test .taken) (l .before .loop .inv .1) (ne-eqb _ 0 (c .if1 .taken))
+returns c =
+    let l = c .before .before in
+    let h = l .before .loop in
+    every-not (λ w. eqb w 0) (l .before .before .args .ws .now) (h .i) (l .loop-test .taken) (h .inv .1) (ne-eqb _ 0 (c .if1 .taken))
 
 add-i : tie.Need-add-i Inv-loop μ-loop
 add-i c = search needs
@@ -35,7 +38,11 @@ loop-less : tie.Need-loop-less Inv-loop μ-loop
 loop-less c = search needs
 
 loop-again : tie.Need-loop-again Inv-loop μ-loop
-loop-again c = let l = c .before .before in (search needs, every-more (λ w. eqb w 0) (l .before .before .args .ws .now) (l .before .loop .i) (l .loop-test .taken) (l .before .loop .inv .1) (eq-eqb _ 0 (c .if1 .left)))
+loop-again c =
+    let l = c .before .before in
+    let h = l .before .loop in
+    let ws = l .before .before .args .ws .now in
+    (search needs, every-more (λ w. eqb w 0) ws (h .i) (l .loop-test .taken) (h .inv .1) (eq-eqb _ 0 (c .if1 .left)))
 
 returns-2 : tie.Need-returns-2 Inv-loop μ-loop
 returns-2 c = every-end (λ w. eqb w 0) (c .before .before .args .ws .now) (c .before .loop .i) (c .loop-test .left) (c .before .loop .inv .1)

@@ -1,12 +1,11 @@
 -- `float_blocks::any_special` meets its contract: what is asked of the words from i on is what is asked of all.
-use mathlib.Core.Path.{_≡_}
 use Prim.Native.Nat.{_-_, _≤_}
-use mathlib.Core.Path.{sym, ap, _∙_}
+use mathlib.Core.Path.{_≡_, sym, ap, _∙_}
 use borrow.Author.Tests.{eq-eqb, ne-eqb}
 use lib.Ieee.{binary32}
 use Rattle.floats.specs.Pattern.{special, exponentField}
 use Rattle.float_blocks.specs.Block.{anySpecial}
-use lib.ListN.{length, drop}
+use lib.ListN.{length, drop, getD}
 use borrow.Author.Needs.{needs}
 use Rattle.float_blocks.proofs.Blocks.{some-more, some-found, some-end}
 use Rattle.float_blocks.proofs.any_special.Statement.{statement}
@@ -33,8 +32,18 @@ wide-requires c κs = search needs
 exponent-field-requires : tie.Need-exponent-field-requires Inv-loop μ-loop
 exponent-field-requires c κs = search needs
 
+-- the field asked about is that of the word
+field-is : (c : tie.After-exponent-field Inv-loop μ-loop)
+    → let l = c .before .before .before in
+    c .exponent-field .result ≡ exponentField binary32 (getD (l .before .before .before .args .ws .now) (l .before .loop .i) 0)
+field-is c = c .exponent-field .ensures .0 ∙ ap (exponentField binary32) (c .before .wide .ensures)
+
 returns : tie.Need-returns Inv-loop μ-loop
-returns c = let l = c .before .before .before .before in some-found (special binary32) (l .before .before .before .args .ws .now) (l .before .loop .i) (l .loop-test .taken) (l .before .loop .inv .1) (eq-eqb _ 255 (sym (c .before .exponent-field .ensures .0 ∙ ap (exponentField binary32) (c .before .before .wide .ensures)) ∙ c .if1 .taken))
+returns c =
+    let l = c .before .before .before .before in
+    let h = l .before .loop in
+    let ws = l .before .before .before .args .ws .now in
+    some-found (special binary32) ws (h .i) (l .loop-test .taken) (h .inv .1) (eq-eqb _ 255 (sym (field-is (c .before)) ∙ c .if1 .taken))
 
 add-i : tie.Need-add-i Inv-loop μ-loop
 add-i c = search needs
@@ -43,10 +52,28 @@ loop-less : tie.Need-loop-less Inv-loop μ-loop
 loop-less c = search needs
 
 loop-again : tie.Need-loop-again Inv-loop μ-loop
-loop-again c = let l = c .before .before .before .before in (search needs, some-more (special binary32) (l .before .before .before .args .ws .now) (l .before .loop .i) (l .loop-test .taken) (l .before .loop .inv .1) (ne-eqb _ 255 (λ z. c .if1 .left (c .before .exponent-field .ensures .0 ∙ ap (exponentField binary32) (c .before .before .wide .ensures) ∙ z))))
+loop-again c =
+    let l = c .before .before .before .before in
+    let h = l .before .loop in
+    let ws = l .before .before .before .args .ws .now in
+    (search needs, some-more (special binary32) ws (h .i) (l .loop-test .taken) (h .inv .1) (ne-eqb _ 255 (λ z. c .if1 .left (field-is (c .before) ∙ z))))
 
 returns-2 : tie.Need-returns-2 Inv-loop μ-loop
 returns-2 c = some-end (special binary32) (c .before .before .before .args .ws .now) (c .before .loop .i) (c .loop-test .left) (c .before .loop .inv .1)
 
 pub any-special-spec : {M : Type 1} → statement M
-any-special-spec = tie.close (tie.spec Inv-loop μ-loop loop-holds mul-wide shared-slice-read-wide wide-requires exponent-field-requires returns add-i loop-less loop-again returns-2)
+any-special-spec =
+    tie.close
+    (tie.spec
+    Inv-loop
+    μ-loop
+    loop-holds
+    mul-wide
+    shared-slice-read-wide
+    wide-requires
+    exponent-field-requires
+    returns
+    add-i
+    loop-less
+    loop-again
+    returns-2)

@@ -41,18 +41,21 @@ loop-less c = search needs
 loop-again : tie.Need-loop-again Inv-loop μ-loop
 loop-again c =
     let l = c .before .before .before in
-    let a = l .before in
-    let ws = a .before .before .args .ws .now in (
+    let h = l .before .loop in
+    let a = l .before .before .before .args in
+    let f = formatOf (a .size) in
+    let rest = largestField f (drop (h .i + 1) (a .ws .now)) in
+    let e = c .larger-of .ensures ∙ ap (max (h .found)) (c .before .exponent-field .ensures .0) in (
       search needs,
-      ap (λ (x : ℕ). max x (largestField (formatOf (a .before .before .args .size)) (drop (a .loop .i + 1) ws))) (c .larger-of .ensures ∙ ap (max (a .loop .found)) (c .before .exponent-field .ensures .0))
-          ∙ largest-more (formatOf (a .before .before .args .size)) ws (a .loop .i) (a .loop .found) (l .loop-test .taken) (a .loop .inv .1),
-      omega (arith, c .larger-of .ensures, c .before .exponent-field .ensures .1, a .loop .inv .2),
+      ap (λ (x : ℕ). max x rest) e ∙ largest-more f (a .ws .now) (h .i) (h .found) (l .loop-test .taken) (h .inv .1),
+      omega (arith, c .larger-of .ensures, c .before .exponent-field .ensures .1, h .inv .2),
     )
 
 returns : tie.Need-returns Inv-loop μ-loop
 returns c =
-    let a = c .before in
-    (largest-end (formatOf (a .before .before .args .size)) (a .before .before .args .ws .now) (a .loop .i) (a .loop .found) (c .loop-test .left) (a .loop .inv .1), a .loop .inv .2)
+    let h = c .before .loop in
+    let a = c .before .before .before .args in
+    (largest-end (formatOf (a .size)) (a .ws .now) (h .i) (h .found) (c .loop-test .left) (h .inv .1), h .inv .2)
 
 pub largest-field-spec : {M : Type 1} → statement M
 largest-field-spec =

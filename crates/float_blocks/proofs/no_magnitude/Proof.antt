@@ -32,8 +32,9 @@ zero-magnitude-requires c κs = search needs
 returns : tie.Need-returns Inv-loop μ-loop
 returns c =
     let l = c .before .before .before in
+    let h = l .before .loop in
     let a = l .before .before .before .args in
-    every-not (zeroMagnitude (formatOf (a .size))) (a .ws .now) (l .before .loop .i) (l .loop-test .taken) (l .before .loop .inv .1) (sym (c .before .zero-magnitude .ensures) ∙ not-true _ (c .if1 .taken))
+    every-not (zeroMagnitude (formatOf (a .size))) (a .ws .now) (h .i) (l .loop-test .taken) (h .inv .1) (sym (c .before .zero-magnitude .ensures) ∙ not-true _ (c .if1 .taken))
 
 add-i : tie.Need-add-i Inv-loop μ-loop
 add-i c = search needs
@@ -44,9 +45,10 @@ loop-less c = search needs
 loop-again : tie.Need-loop-again Inv-loop μ-loop
 loop-again c =
     let l = c .before .before .before in
+    let h = l .before .loop in
     let a = l .before .before .before .args in (
       search needs,
-      every-more (zeroMagnitude (formatOf (a .size))) (a .ws .now) (l .before .loop .i) (l .loop-test .taken) (l .before .loop .inv .1) (sym (c .before .zero-magnitude .ensures) ∙ not-false _ (c .if1 .left)),
+      every-more (zeroMagnitude (formatOf (a .size))) (a .ws .now) (h .i) (l .loop-test .taken) (h .inv .1) (sym (c .before .zero-magnitude .ensures) ∙ not-false _ (c .if1 .left)),
     )
 
 returns-2 : tie.Need-returns-2 Inv-loop μ-loop
@@ -57,4 +59,15 @@ returns-2 c =
 pub no-magnitude-spec : {M : Type 1} → statement M
 no-magnitude-spec =
     tie.close
-    (tie.spec Inv-loop μ-loop loop-holds mul-zero-magnitude shared-slice-read-zero-magnitude zero-magnitude-requires returns add-i loop-less loop-again returns-2)
+    (tie.spec
+    Inv-loop
+    μ-loop
+    loop-holds
+    mul-zero-magnitude
+    shared-slice-read-zero-magnitude
+    zero-magnitude-requires
+    returns
+    add-i
+    loop-less
+    loop-again
+    returns-2)

@@ -24,11 +24,12 @@ shl-result c = search needs
 
 returns : tie.Need-returns
 returns c =
-    let k = c .before in
-    let s = k .before in
+    let k = c .before .field-bits in
+    let s = c .before .before in
     let a = s .args in
-    left (a .q) (a .y + k .field-bits .result) (a .e) (c .if1 .taken) 64 (prec (formatOf (a .size))) (s .pre .1) (omega (arith, k .field-bits .ensures .1, sized (a .size) (s .pre .0) .digits))
-    ∙ ap (λ (x : ℕ). a .q * 2 ^ (a .y + x) / 2 ^ (a .e)) (k .field-bits .ensures .1)
+    left (a .q) (a .y + k .result) (a .e) (c .if1 .taken) 64 (prec (formatOf (a .size))) (s .pre .1)
+    (omega (arith, k .ensures .1, sized (a .size) (s .pre .0) .digits))
+    ∙ ap (λ (x : ℕ). a .q * 2 ^ (a .y + x) / 2 ^ (a .e)) (k .ensures .1)
 
 sub-d : tie.Need-sub-d
 sub-d c = search needs
@@ -41,17 +42,18 @@ shr-result c = search needs
 
 returns-2 : tie.Need-returns-2
 returns-2 c =
-    let k = c .before .before in
-    let a = k .before .args in
-    right (a .q) (a .y + k .field-bits .result) (a .e) (c .before .if1 .left) ∙ ap (λ (x : ℕ). a .q * 2 ^ (a .y + x) / 2 ^ (a .e)) (k .field-bits .ensures .1)
+    let k = c .before .before .field-bits in
+    let a = c .before .before .before .args in
+    right (a .q) (a .y + k .result) (a .e) (c .before .if1 .left) ∙ ap (λ (x : ℕ). a .q * 2 ^ (a .y + x) / 2 ^ (a .e)) (k .ensures .1)
 
 returns-3 : tie.Need-returns-3
 returns-3 c =
-    let k = c .before .before in
-    let s = k .before in
+    let k = c .before .before .field-bits in
+    let s = c .before .before .before in
     let a = s .args in
-    out (a .q) (a .y + k .field-bits .result) (a .e) (c .before .if1 .left) (prec (formatOf (a .size))) (s .pre .1) (omega (arith, sized (a .size) (s .pre .0) .precise))
-    ∙ ap (λ (x : ℕ). a .q * 2 ^ (a .y + x) / 2 ^ (a .e)) (k .field-bits .ensures .1)
+    out (a .q) (a .y + k .result) (a .e) (c .before .if1 .left) (prec (formatOf (a .size))) (s .pre .1)
+    (omega (arith, sized (a .size) (s .pre .0) .precise))
+    ∙ ap (λ (x : ℕ). a .q * 2 ^ (a .y + x) / 2 ^ (a .e)) (k .ensures .1)
 
 pub cut-magnitude-spec : {M : Type 1} → statement M
 cut-magnitude-spec =

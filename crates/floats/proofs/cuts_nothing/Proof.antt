@@ -20,9 +20,10 @@ add-p c = search needs
 
 returns : tie.Need-returns
 returns c =
-    let k = c .before in
-    let a = k .before .args in
-    sym (left-exact (a .q) (a .y + k .field-bits .result) (a .e) (c .if1 .taken)) ∙ ap (λ (x : ℕ). eqb (a .q * 2 ^ (a .y + x) % 2 ^ (a .e)) 0) (k .field-bits .ensures .1)
+    let k = c .before .field-bits in
+    let a = c .before .before .args in
+    sym (left-exact (a .q) (a .y + k .result) (a .e) (c .if1 .taken))
+    ∙ ap (λ (x : ℕ). eqb (a .q * 2 ^ (a .y + x) % 2 ^ (a .e)) 0) (k .ensures .1)
 
 sub-d : tie.Need-sub-d
 sub-d c = search needs
@@ -41,18 +42,20 @@ rem-result c =
 
 returns-2 : tie.Need-returns-2
 returns-2 c =
-    let k = c .before .before in
-    let a = k .before .args in
-    ap (λ (x : ℕ). eqb (a .q % x) 0) (one-shifted 64 (a .e - (a .y + k .field-bits .result)) (c .if2 .taken)) ∙ right-exact (a .q) (a .y + k .field-bits .result) (a .e) (c .before .if1 .left)
-    ∙ ap (λ (x : ℕ). eqb (a .q * 2 ^ (a .y + x) % 2 ^ (a .e)) 0) (k .field-bits .ensures .1)
+    let k = c .before .before .field-bits in
+    let a = c .before .before .before .args in
+    let p = a .y + k .result in
+    ap (λ (x : ℕ). eqb (a .q % x) 0) (one-shifted 64 (a .e - p) (c .if2 .taken)) ∙ right-exact (a .q) p (a .e) (c .before .if1 .left)
+    ∙ ap (λ (x : ℕ). eqb (a .q * 2 ^ (a .y + x) % 2 ^ (a .e)) 0) (k .ensures .1)
 
 returns-3 : tie.Need-returns-3
 returns-3 c =
-    let k = c .before .before in
-    let s = k .before in
+    let k = c .before .before .field-bits in
+    let s = c .before .before .before in
     let a = s .args in
-    out-exact (a .q) (a .y + k .field-bits .result) (a .e) (c .before .if1 .left) (prec (formatOf (a .size))) (s .pre .1) (omega (arith, sized (a .size) (s .pre .0) .precise))
-    ∙ ap (λ (x : ℕ). eqb (a .q * 2 ^ (a .y + x) % 2 ^ (a .e)) 0) (k .field-bits .ensures .1)
+    out-exact (a .q) (a .y + k .result) (a .e) (c .before .if1 .left) (prec (formatOf (a .size))) (s .pre .1)
+    (omega (arith, sized (a .size) (s .pre .0) .precise))
+    ∙ ap (λ (x : ℕ). eqb (a .q * 2 ^ (a .y + x) % 2 ^ (a .e)) 0) (k .ensures .1)
 
 pub cuts-nothing-spec : {M : Type 1} → statement M
 cuts-nothing-spec =

@@ -48,7 +48,9 @@ returns c =
     let a = s .args in
     let p = k .fraction-bits .result + 1 in
     let e : p ≡ prec (formatOf (a .size)) = add-one (k .fraction-bits .result) ∙ k .fraction-bits .ensures .1 in
-    shl-exact (a .l) (p - a .l) 64 (s .pre .1) (omega (arith, k .fraction-bits .ensures .3)) ∙ sym (held-left (a .g) p (a .l) (c .if1 .taken)) ∙ ap (λ (x : ℕ). closest (a .g * 2 ^ x) (2 ^ a .l)) e
+    shl-exact (a .l) (p - a .l) 64 (s .pre .1) (omega (arith, k .fraction-bits .ensures .3))
+    ∙ sym (held-left (a .g) p (a .l) (c .if1 .taken))
+    ∙ ap (λ (x : ℕ). closest (a .g * 2 ^ x) (2 ^ a .l)) e
 
 returns-2 : tie.Need-returns-2
 returns-2 c =
@@ -57,7 +59,9 @@ returns-2 c =
     let a = k .before .args in
     let p = k .fraction-bits .result + 1 in
     let e : p ≡ prec (formatOf (a .size)) = add-one (k .fraction-bits .result) ∙ k .fraction-bits .ensures .1 in
-    c .half-even .ensures ∙ ap (λ (x : ℕ). closest (a .g) x) (one-shifted 64 (a .l - p) (omega arith)) ∙ held-right (a .g) p (a .l) (t .if1 .left) ∙ ap (λ (x : ℕ). closest (a .g * 2 ^ x) (2 ^ a .l)) e
+    c .half-even .ensures ∙ ap (λ (x : ℕ). closest (a .g) x) (one-shifted 64 (a .l - p) (omega arith))
+    ∙ held-right (a .g) p (a .l) (t .if1 .left)
+    ∙ ap (λ (x : ℕ). closest (a .g * 2 ^ x) (2 ^ a .l)) e
 
 pub kept-spec : {M : Type 1} → statement M
 kept-spec =

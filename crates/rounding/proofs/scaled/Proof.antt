@@ -63,7 +63,8 @@ returns-2 c =
     let z = sized (a .size) (s .pre .0) .size in
     let power = one-shifted 64 (k .field-bits .result) (omega (arith, k .field-bits .ensures .3)) ∙ ap (λ (x : ℕ). 2 ^ x) (k .field-bits .ensures .1) in
     let is : c .half-even .result ≡ scaled f false (a .g) (a .e) =
-    c .half-even .ensures ∙ ap (λ (x : ℕ). closest ((a .g * 2 ^ a .e) % 2 ^ 64) x) power ∙ small f (a .g) (a .e) (t .before .if1 .left) (fits s) (omega (arith, t .if2 .taken, z)) in
+    c .half-even .ensures ∙ ap (λ (x : ℕ). closest ((a .g * 2 ^ a .e) % 2 ^ 64) x) power
+    ∙ small f (a .g) (a .e) (t .before .if1 .left) (fits s) (omega (arith, t .if2 .taken, z)) in
     (is, rw is (scaled-le f (a .g) (a .e)))
 
 fraction-bits-requires : tie.Need-fraction-bits-requires
@@ -90,11 +91,12 @@ kept-requires c κs =
     (s .pre .0, hi (formatOf (s .args .size)) (s .args .g) (s .args .e) (c .before .before .if1 .left) (fits s), omega arith)
 
 -- the pattern before it is held to the infinity's
-whole : (c : tie.After-kept) → let s = c .before .before .before .before in let f = formatOf (s .args .size) in
-    (((digitsOf (s .args .g) + s .args .e - s .args .size) * 2 ^ c .before .fraction-bits .result) % 2 ^ 64 + c .kept .result
-    ≡ (digitsOf (s .args .g) + s .args .e - wordSize f) * hid f + closest (s .args .g * 2 ^ prec f) (2 ^ digitsOf (s .args .g)))
-    × ((digitsOf (s .args .g) + s .args .e - wordSize f) * hid f + closest (s .args .g * 2 ^ prec f) (2 ^ digitsOf (s .args .g)) < 2 ^ 64)
-    × (min ((digitsOf (s .args .g) + s .args .e - wordSize f) * hid f + closest (s .args .g * 2 ^ prec f) (2 ^ digitsOf (s .args .g))) (ones f * hid f) ≡ scaled f false (s .args .g) (s .args .e))
+whole : (c : tie.After-kept)
+    → let a = c .before .before .before .before .args in
+    let f = formatOf (a .size) in
+    let n = (digitsOf (a .g) + a .e - wordSize f) * hid f + closest (a .g * 2 ^ prec f) (2 ^ digitsOf (a .g)) in
+    (((digitsOf (a .g) + a .e - a .size) * 2 ^ c .before .fraction-bits .result) % 2 ^ 64 + c .kept .result ≡ n)
+    × (n < 2 ^ 64) × (min n (ones f * hid f) ≡ scaled f false (a .g) (a .e))
 whole c =
     let k = c .before in
     let t = k .before in
@@ -103,8 +105,9 @@ whole c =
     let f = formatOf (a .size) in
     let z = sized (a .size) (s .pre .0) .size in
     let many : wordSize f < digitsOf (a .g) + a .e = omega (arith, t .if2 .left, z) in
-    let some = t .before .if1 .left in (
-      ap₂ _+_ (raised-is f (a .g) (a .e) some (fits s) many (a .size) (k .fraction-bits .result) (sym z) (k .fraction-bits .ensures .0) (s .pre .1)) (c .kept .ensures),
+    let some = t .before .if1 .left in
+    let n = k .fraction-bits in (
+      ap₂ _+_ (raised-is f (a .g) (a .e) some (fits s) many (a .size) (n .result) (sym z) (n .ensures .0) (s .pre .1)) (c .kept .ensures),
       sum-lt f (a .g) (a .e) some (fits s) many (s .pre .1),
       large f (a .g) (a .e) some (fits s) many,
     )

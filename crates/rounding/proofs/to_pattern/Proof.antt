@@ -1,5 +1,5 @@
 -- `rounding::to_pattern` meets its contract: the sign bit is added to the pattern of the magnitude.
-use mathlib.Core.Path.{_≡_, ap, _∙_}
+use mathlib.Core.Path.{_≡_, ap, ap₂, _∙_}
 use Prim.Native.Nat.{ℕ, _+_, _^_, _≤_}
 use native.Mathlib.Omega.{arith}
 use mathlib.Core.Bool.{false}
@@ -59,8 +59,8 @@ returns-2 c =
     let f = formatOf (a .size) in
     let z = sized (a .size) (s .pre .0) .size in
     let n : m .minus .result ≡ minus (wordSize f) 0 (a .i) = rw z (m .minus .ensures) in
-    rw (t .before .sign-bit .ensures) (ap (λ (x : ℕ). top f + x) (c .scaled2 .ensures .0 ∙ ap (λ (g : ℕ). scaled f false g (a .e)) n)
-    ∙ pattern-of-negative f (a .e) (a .i) (rw (t .before .sign-bit .ensures) at (t .if1 .left)))
+    ap₂ _+_ (t .before .sign-bit .ensures) (c .scaled2 .ensures .0 ∙ ap (λ (g : ℕ). scaled f false g (a .e)) n)
+    ∙ pattern-of-negative f (a .e) (a .i) (rw (t .before .sign-bit .ensures) at (t .if1 .left))
 
 pub to-pattern-spec : {M : Type 1} → statement M
 to-pattern-spec =
