@@ -5,7 +5,7 @@ use mathlib.Core.List.{List, [], _∷_, _++_}
 use Prim.Native.Nat.{ℕ}
 use lib.ListN.{replicate}
 use Rattle.words.specs.Word.{plus, minus, half, nega, unnega}
-use Rattle.blocks.specs.Four.{lift, twiceLess, unlift, differ}
+use Rattle.transforms.specs.Four.{lift, twiceLess, unlift, differ}
 use Rattle.blocks.specs.Axes.{along, forward, backward}
 use Rattle.order.specs.Order.{reorder, restore}
 use Rattle.blocks.specs.Coefficients.{coefficients, values}

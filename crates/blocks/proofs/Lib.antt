@@ -1,6 +1,4 @@
 -- The laws of blocks.
-pub mod Steps
-pub mod Through
 pub mod Lines
 pub mod RoundTrip
 pub mod Whole

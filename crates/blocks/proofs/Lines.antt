@@ -8,11 +8,11 @@ use lib.Arith.{digits-lt, digits-div, digits-mod}
 use lib.ListN.{length, getD}
 use lib.Seq.{ext-getD}
 use Rattle.words.specs.Word.{AllBelow}
-use Rattle.blocks.specs.Four.{Transform}
+use Rattle.transforms.specs.Four.{Transform}
 use Rattle.blocks.specs.Axes.{line, inLine, lineStart, along}
-use Rattle.blocks.specs.Calls.{onFour}
+use Rattle.transforms.specs.Calls.{onFour}
 use Rattle.order.proofs.Lists.{length-tabulate, getD-tabulate, words-tabulate}
-use Rattle.blocks.proofs.Steps.{Keeps, Undoes}
+use Rattle.transforms.proofs.Steps.{Keeps, Undoes}
 
 module _ (t : Transform) (s : ℕ) (ws : List ℕ) where
   pub length-along : length (along t s ws) ≡ length ws

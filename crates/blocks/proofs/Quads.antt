@@ -5,10 +5,10 @@ use mathlib.Core.List.{List, [], _∷_}
 use Prim.Native.Nat.{ℕ}
 use lib.ListN.{length, getD}
 use Rattle.words.specs.Word.{nega, unnega}
-use Rattle.blocks.specs.Four.{unlift, undiffer, writing, reading}
+use Rattle.transforms.specs.Four.{unlift, undiffer, writing, reading}
 use Rattle.order.specs.Lists.{tabulate}
 use Rattle.blocks.specs.Axes.{along}
-use Rattle.blocks.specs.Calls.{onFour}
+use Rattle.transforms.specs.Calls.{onFour}
 use Rattle.order.specs.Order.{reorder, restore}
 use Rattle.blocks.specs.Coefficients.{coefficients, values}
 use Rattle.order.proofs.Lists.{tabulate-getD}

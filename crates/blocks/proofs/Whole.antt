@@ -10,7 +10,7 @@ use Rattle.blocks.specs.Axes.{forward, backward}
 use Rattle.order.specs.Order.{order, reorder, restore, inOrder}
 use Rattle.blocks.specs.Coefficients.{coefficients, values}
 use Rattle.order.proofs.Lists.{words-map, map-back}
-use Rattle.blocks.proofs.Steps.{keeps-reading, keeps-differ}
+use Rattle.transforms.proofs.Steps.{keeps-reading, keeps-differ}
 use Rattle.blocks.proofs.RoundTrip.{length-forward, length-backward, words-forward, words-backward, backward-forward, forward-backward}
 use Rattle.order.proofs.Tables.{length-reorder, length-restore, words-reorder, words-restore, restore-reorder, reorder-restore}
 use Rattle.order.proofs.Orders.{ordered}

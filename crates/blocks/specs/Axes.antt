@@ -5,7 +5,7 @@ use mathlib.Core.List.{List}
 use Prim.Native.Nat.{ℕ, zero, suc, _+_, _-_, _*_, _/_, _%_, _^_}
 use lib.ListN.{length, getD}
 use Rattle.order.specs.Lists.{tabulate}
-use Rattle.blocks.specs.Four.{Transform, writing, reading}
+use Rattle.transforms.specs.Four.{Transform, writing, reading}
 
 -- t of the line of stride s from place b on: of the values at b, b + s, b + 2s, b + 3s
 abbrev pub line : Transform → ℕ → ℕ → List ℕ → List ℕ

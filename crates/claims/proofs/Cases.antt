@@ -7,7 +7,7 @@ use lib.Ieee.{ofBits, toBits, round}
 use Rattle.words.specs.Word.{plus, minus, half, nega, unnega, flip}
 use Rattle.planes.specs.Coder.{planeCode, planeNext, planesCode}
 use Rattle.planes.specs.Reader.{readPlane, readNext, readWords}
-use Rattle.blocks.specs.Four.{twiceLess, lift, unlift, differ, undiffer}
+use Rattle.transforms.specs.Four.{twiceLess, lift, unlift, differ, undiffer}
 use Rattle.blocks.specs.Axes.{along}
 use Rattle.order.specs.Order.{reorder, restore}
 use Rattle.blocks.specs.Coefficients.{coefficients, values}

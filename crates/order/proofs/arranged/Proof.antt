@@ -57,7 +57,8 @@ returns : tie.Need-returns Inv-loop μ-loop
 returns c =
     let s = c .before in
     let e : s .loop .k ≡ 16 = omega arith in
-    gathered (nega (s .before .args .size)) 16 (order 2) square-places (s .before .args .t2) (s .loop .out) (s .loop .inv .1) (rw e at (s .loop .inv .2))
+    let a = s .before .args in
+    gathered (nega (a .size)) 16 (order 2) square-places (a .t2) (s .loop .out) (s .loop .inv .1) (rw e at (s .loop .inv .2))
 
 pub arranged-spec : {M : Type 1} → statement M
 arranged-spec =

@@ -59,7 +59,8 @@ returns : tie.Need-returns Inv-loop μ-loop
 returns c =
     let s = c .before in
     let e : s .loop .k ≡ 16 = omega arith in
-    scattered (unnega (s .before .args .size)) 16 (order 2) square-places (s .before .args .t2) (s .loop .out) (s .loop .inv .1) (omega arith) (rw e at (s .loop .inv .2))
+    let a = s .before .args in
+    scattered (unnega (a .size)) 16 (order 2) square-places (a .t2) (s .loop .out) (s .loop .inv .1) (omega arith) (rw e at (s .loop .inv .2))
 
 pub placed-spec : {M : Type 1} → statement M
 placed-spec =

@@ -1,8 +1,8 @@
--- `blocks::transform::undiffer` meets its contract: each step is what `words` ensures of it.
+-- `transforms::undiffer` meets its contract: each step is what `words` ensures of it.
 use borrow.Author.Needs.{needs}
-use Rattle.blocks.specs.Four.{undiffer}
-use Rattle.blocks.proofs.transform.undiffer.Statement.{statement}
-use Rattle.blocks.proofs.transform.undiffer.Tie as tie
+use Rattle.transforms.specs.Four.{undiffer}
+use Rattle.transforms.proofs.undiffer.Statement.{statement}
+use Rattle.transforms.proofs.undiffer.Tie as tie
 
 array-read-plus : tie.Need-array-read-plus
 array-read-plus c = search needs

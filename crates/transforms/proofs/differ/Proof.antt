@@ -1,8 +1,8 @@
--- `blocks::transform::differ` meets its contract: each step is what `words` ensures of it.
+-- `transforms::differ` meets its contract: each step is what `words` ensures of it.
 use borrow.Author.Needs.{needs}
-use Rattle.blocks.specs.Four.{differ}
-use Rattle.blocks.proofs.transform.differ.Statement.{statement}
-use Rattle.blocks.proofs.transform.differ.Tie as tie
+use Rattle.transforms.specs.Four.{differ}
+use Rattle.transforms.proofs.differ.Statement.{statement}
+use Rattle.transforms.proofs.differ.Tie as tie
 
 array-read-minus : tie.Need-array-read-minus
 array-read-minus c = search needs

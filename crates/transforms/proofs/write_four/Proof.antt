@@ -1,7 +1,7 @@
--- `blocks::transform::write_four` meets its contract: the mode picks the transform.
+-- `transforms::write_four` meets its contract: the mode picks the transform.
 use borrow.Author.Needs.{needs}
-use Rattle.blocks.proofs.transform.write_four.Statement.{statement}
-use Rattle.blocks.proofs.transform.write_four.Tie as tie
+use Rattle.transforms.proofs.write_four.Statement.{statement}
+use Rattle.transforms.proofs.write_four.Tie as tie
 
 differ-requires : tie.Need-differ-requires
 differ-requires c κs = search needs

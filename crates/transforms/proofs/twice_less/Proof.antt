@@ -1,8 +1,8 @@
--- `blocks::transform::twice_less` meets its contract: the sum and the difference are what `words` ensures.
+-- `transforms::twice_less` meets its contract: the sum and the difference are what `words` ensures.
 use borrow.Author.Needs.{needs}
-use Rattle.blocks.specs.Four.{twiceLess}
-use Rattle.blocks.proofs.transform.twice_less.Statement.{statement}
-use Rattle.blocks.proofs.transform.twice_less.Tie as tie
+use Rattle.transforms.specs.Four.{twiceLess}
+use Rattle.transforms.proofs.twice_less.Statement.{statement}
+use Rattle.transforms.proofs.twice_less.Tie as tie
 
 plus-requires : tie.Need-plus-requires
 plus-requires c κs = search needs

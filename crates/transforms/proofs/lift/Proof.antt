@@ -1,8 +1,8 @@
--- `blocks::transform::lift` meets its contract: each step is what `words` ensures of it.
+-- `transforms::lift` meets its contract: each step is what `words` ensures of it.
 use borrow.Author.Needs.{needs}
-use Rattle.blocks.proofs.Through.{lift-steps}
-use Rattle.blocks.proofs.transform.lift.Statement.{statement}
-use Rattle.blocks.proofs.transform.lift.Tie as tie
+use Rattle.transforms.proofs.Through.{lift-steps}
+use Rattle.transforms.proofs.lift.Statement.{statement}
+use Rattle.transforms.proofs.lift.Tie as tie
 
 array-read-plus : tie.Need-array-read-plus
 array-read-plus c = search needs

@@ -1,8 +1,8 @@
--- `blocks::transform::unlift` meets its contract: each step is what its callee ensures of it.
+-- `transforms::unlift` meets its contract: each step is what its callee ensures of it.
 use borrow.Author.Needs.{needs}
-use Rattle.blocks.specs.Four.{unlift}
-use Rattle.blocks.proofs.transform.unlift.Statement.{statement}
-use Rattle.blocks.proofs.transform.unlift.Tie as tie
+use Rattle.transforms.proofs.Through.{unlift-steps}
+use Rattle.transforms.proofs.unlift.Statement.{statement}
+use Rattle.transforms.proofs.unlift.Tie as tie
 
 array-read-plus : tie.Need-array-read-plus
 array-read-plus c = search needs
@@ -59,24 +59,22 @@ twice-less-requires-4 : tie.Need-twice-less-requires-4
 twice-less-requires-4 c κs = search needs
 
 returns : tie.Need-returns
-unfolding unlift
 returns c =
     let c₁ = c .before .before .before .before in
     let c₂ = c₁ .before .before .before .before in
-    rw (
-      c .twice-less4 .ensures,
-      c .before .plus5 .ensures,
-      c .before .before .twice-less3 .ensures,
-      c .before .before .before .plus4 .ensures,
-      c₁ .twice-less2 .ensures,
-      c₁ .before .plus3 .ensures,
-      c₁ .before .before .twice-less .ensures,
-      c₁ .before .before .before .plus2 .ensures,
-      c₂ .minus .ensures,
-      c₂ .before .half2 .ensures,
-      c₂ .before .before .plus .ensures,
-      c₂ .before .before .before .half .ensures,
-    )
+    unlift-steps _ _ _ _ _
+    (c₂ .before .before .before .half .ensures)
+    (c₂ .before .before .plus .ensures)
+    (c₂ .before .half2 .ensures)
+    (c₂ .minus .ensures)
+    (c₁ .before .before .before .plus2 .ensures)
+    (c₁ .before .before .twice-less .ensures)
+    (c₁ .before .plus3 .ensures)
+    (c₁ .twice-less2 .ensures)
+    (c .before .before .before .plus4 .ensures)
+    (c .before .before .twice-less3 .ensures)
+    (c .before .plus5 .ensures)
+    (c .twice-less4 .ensures)
 
 pub unlift-spec : {M : Type 1} → statement M
 unlift-spec =

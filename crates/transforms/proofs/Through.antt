@@ -1,9 +1,9 @@
--- The lossy transform, from what each of its steps gave.
+-- The transforms, from what each of their steps gave.
 use mathlib.Core.Path.{_≡_}
 use mathlib.Core.List.{[], _∷_}
 use Prim.Native.Nat.{ℕ}
 use Rattle.words.specs.Word.{plus, minus, half}
-use Rattle.blocks.specs.Four.{lift}
+use Rattle.transforms.specs.Four.{lift, twiceLess, unlift}
 
 pub lift-steps : (k x y z w : ℕ) {s₁ x₁ w₁ s₂ z₁ y₁ s₃ x₂ z₂ s₄ w₂ y₂ h₅ w₃ h₆ y₃ : ℕ}
     → s₁ ≡ plus k x w → x₁ ≡ half k s₁ → w₁ ≡ minus k w x₁
@@ -14,3 +14,13 @@ pub lift-steps : (k x y z w : ℕ) {s₁ x₁ w₁ s₂ z₁ y₁ s₃ x₂ z₂
     → (x₂ ∷ y₃ ∷ z₂ ∷ w₃ ∷ []) ≡ lift k x y z w
 unfolding lift
 lift-steps _ _ _ _ _ a b c d e f g h i j k l m n o p = rw (p, o, n, m, l, k, j, i, h, g, f, e, d, c, b, a)
+
+pub unlift-steps : (k x y z w : ℕ) {h₁ y₁ h₂ w₁ y₂ w₂ z₁ x₁ y₃ z₂ w₃ x₂ : ℕ}
+    → h₁ ≡ half k w → y₁ ≡ plus k y h₁ → h₂ ≡ half k y₁ → w₁ ≡ minus k w h₂
+    → y₂ ≡ plus k y₁ w₁ → w₂ ≡ twiceLess k w₁ y₂
+    → z₁ ≡ plus k z x → x₁ ≡ twiceLess k x z₁
+    → y₃ ≡ plus k y₂ z₁ → z₂ ≡ twiceLess k z₁ y₃
+    → w₃ ≡ plus k w₂ x₁ → x₂ ≡ twiceLess k x₁ w₃
+    → (x₂ ∷ y₃ ∷ z₂ ∷ w₃ ∷ []) ≡ unlift k x y z w
+unfolding unlift
+unlift-steps _ _ _ _ _ a b c d e f g h i j k l = rw (l, k, j, i, h, g, f, e, d, c, b, a)

@@ -4,8 +4,8 @@ use words::minus;
 use words::plus;
 ghost use mathlib.Core.Path.{_≡_};
 ghost use Prim.Native.Nat.{_≤_};
-ghost use Rattle.blocks.specs.Four.{lift, twiceLess, unlift, differ, undiffer, writing, reading};
-ghost use Rattle.blocks.specs.Calls.{onFour};
+ghost use Rattle.transforms.specs.Four.{lift, twiceLess, unlift, differ, undiffer, writing, reading};
+ghost use Rattle.transforms.specs.Calls.{onFour};
 
 // x+=w, halve x, w-=x; z+=y, halve z, y-=z; x+=z, halve x, z-=x; w+=y, halve w, y-=w; w+=y/2, y-=w/2.
 pub fn lift(size: u32, a: [u64; 4]) -> [u64; 4]

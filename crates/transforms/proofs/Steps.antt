@@ -6,8 +6,8 @@ use Prim.Native.Nat.{ℕ, zero, suc, _^_, _<_}
 use lib.Pow.{pow-pos}
 use Rattle.words.proofs.Sums.{plus-lt, minus-lt, plus-minus, minus-plus}
 use Rattle.words.specs.Word.{plus, minus, AllBelow}
-use Rattle.blocks.specs.Four.{Transform, twiceLess, unlift, differ, undiffer, reading}
-use Rattle.blocks.specs.Calls.{onFour}
+use Rattle.transforms.specs.Four.{Transform, twiceLess, unlift, differ, undiffer, reading}
+use Rattle.transforms.specs.Calls.{onFour}
 
 -- words of k bits give words of k bits
 abbrev pub Keeps : ℕ → Transform → Type 0

@@ -1,7 +1,7 @@
--- `blocks::transform::read_four` meets its contract: the mode picks the transform.
+-- `transforms::read_four` meets its contract: the mode picks the transform.
 use borrow.Author.Needs.{needs}
-use Rattle.blocks.proofs.transform.read_four.Statement.{statement}
-use Rattle.blocks.proofs.transform.read_four.Tie as tie
+use Rattle.transforms.proofs.read_four.Statement.{statement}
+use Rattle.transforms.proofs.read_four.Tie as tie
 
 undiffer-requires : tie.Need-undiffer-requires
 undiffer-requires c κs = search needs
