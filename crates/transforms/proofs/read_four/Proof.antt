@@ -10,10 +10,10 @@ unlift-requires : tie.Need-unlift-requires
 unlift-requires c κs = search needs
 
 returns : tie.Need-returns
-returns c = cc
+returns c = rw (c .before .if1 .taken) (c .undiffer .ensures)
 
 returns-2 : tie.Need-returns-2
-returns-2 c = cc
+returns-2 c = rw (c .before .if1 .left) (c .unlift .ensures)
 
 pub read-four-spec : {M : Type 1} → statement M
 read-four-spec = tie.close (tie.spec undiffer-requires unlift-requires returns returns-2)

@@ -10,10 +10,10 @@ lift-requires : tie.Need-lift-requires
 lift-requires c κs = search needs
 
 returns : tie.Need-returns
-returns c = cc
+returns c = rw (c .before .if1 .taken) (c .differ .ensures)
 
 returns-2 : tie.Need-returns-2
-returns-2 c = cc
+returns-2 c = rw (c .before .if1 .left) (c .lift .ensures)
 
 pub write-four-spec : {M : Type 1} → statement M
 write-four-spec = tie.close (tie.spec differ-requires lift-requires returns returns-2)
