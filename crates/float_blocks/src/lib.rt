@@ -63,7 +63,7 @@ pub fn no_magnitude(size: u32, ws: &[u64]) -> bool
     true
 }
 
-fn wide(w: u32) -> u64
+fn word_value(w: u32) -> u64
     ensures { λ r. ⌜ r ≡ w ⌝ }
 {
     w as u64
@@ -75,7 +75,7 @@ pub fn any_special(ws: &[u32]) -> bool
 {
     let mut i: usize = 0;
     while i < ws.len() {
-        if floats::exponent_field(32, wide(ws[i])) == 255 {
+        if floats::exponent_field(32, word_value(ws[i])) == 255 {
             return true;
         }
         i += 1;

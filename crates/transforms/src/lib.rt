@@ -8,7 +8,7 @@ ghost use Rattle.transforms.specs.Four.{lift, twiceLess, unlift, differ,
 ghost use Rattle.transforms.specs.Calls.{onFour};
 
 // x+=w, halve x, w-=x; z+=y, halve z, y-=z; x+=z, halve x, z-=x; w+=y, halve w, y-=w; w+=y/2, y-=w/2.
-pub fn lift(size: u32, a: [u64; 4]) -> [u64; 4]
+fn lift(size: u32, a: [u64; 4]) -> [u64; 4]
     requires { ⌜ (1 ≤ size) × (size ≤ 64) ⌝ }
     ensures { λ r. ⌜ r ≡ onFour (lift size) a ⌝ }
 {
@@ -33,7 +33,7 @@ fn twice_less(size: u32, a: u64, b: u64) -> u64
 }
 
 // y+=w/2, w-=y/2; y+=w, w=2w-y; z+=x, x=2x-z; y+=z, z=2z-y; w+=x, x=2x-w.
-pub fn unlift(size: u32, a: [u64; 4]) -> [u64; 4]
+fn unlift(size: u32, a: [u64; 4]) -> [u64; 4]
     requires { ⌜ (1 ≤ size) × (size ≤ 64) ⌝ }
     ensures { λ r. ⌜ r ≡ onFour (unlift size) a ⌝ }
 {
@@ -51,7 +51,7 @@ pub fn unlift(size: u32, a: [u64; 4]) -> [u64; 4]
 }
 
 // w-=z, z-=y, y-=x; w-=z, z-=y; w-=z.
-pub fn differ(size: u32, a: [u64; 4]) -> [u64; 4]
+fn differ(size: u32, a: [u64; 4]) -> [u64; 4]
     requires { ⌜ (1 ≤ size) × (size ≤ 64) ⌝ }
     ensures { λ r. ⌜ r ≡ onFour (differ size) a ⌝ }
 {
@@ -65,7 +65,7 @@ pub fn differ(size: u32, a: [u64; 4]) -> [u64; 4]
 }
 
 // w+=z; z+=y, w+=z; y+=x, z+=y, w+=z.
-pub fn undiffer(size: u32, a: [u64; 4]) -> [u64; 4]
+fn undiffer(size: u32, a: [u64; 4]) -> [u64; 4]
     requires { ⌜ (1 ≤ size) × (size ≤ 64) ⌝ }
     ensures { λ r. ⌜ r ≡ onFour (undiffer size) a ⌝ }
 {

@@ -20,14 +20,14 @@ abbrev μ-loop : tie.MeasureT-loop
 loop-holds : tie.Need-loop-holds Inv-loop μ-loop
 loop-holds c = search needs
 
-mul-wide : tie.Need-mul-wide Inv-loop μ-loop
-mul-wide c = search needs
+mul-word-value : tie.Need-mul-word-value Inv-loop μ-loop
+mul-word-value c = search needs
 
-shared-slice-read-wide : tie.Need-shared-slice-read-wide Inv-loop μ-loop
-shared-slice-read-wide c = search needs
+shared-slice-read-word-value : tie.Need-shared-slice-read-word-value Inv-loop μ-loop
+shared-slice-read-word-value c = search needs
 
-wide-requires : tie.Need-wide-requires Inv-loop μ-loop
-wide-requires c κs = search needs
+word-value-requires : tie.Need-word-value-requires Inv-loop μ-loop
+word-value-requires c κs = search needs
 
 exponent-field-requires : tie.Need-exponent-field-requires Inv-loop μ-loop
 exponent-field-requires c κs = search needs
@@ -36,7 +36,7 @@ exponent-field-requires c κs = search needs
 field-is : (c : tie.After-exponent-field Inv-loop μ-loop)
     → let l = c .before .before .before in
     c .exponent-field .result ≡ exponentField binary32 (getD (l .before .before .before .args .ws .now) (l .before .loop .i) 0)
-field-is c = c .exponent-field .ensures .0 ∙ ap (exponentField binary32) (c .before .wide .ensures)
+field-is c = c .exponent-field .ensures .0 ∙ ap (exponentField binary32) (c .before .word-value .ensures)
 
 returns : tie.Need-returns Inv-loop μ-loop
 returns c =
@@ -68,9 +68,9 @@ any-special-spec =
     Inv-loop
     μ-loop
     loop-holds
-    mul-wide
-    shared-slice-read-wide
-    wide-requires
+    mul-word-value
+    shared-slice-read-word-value
+    word-value-requires
     exponent-field-requires
     returns
     add-i

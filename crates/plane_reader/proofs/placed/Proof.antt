@@ -7,19 +7,19 @@ use borrow.Author.Needs.{needs}
 use Rattle.plane_reader.proofs.placed.Statement.{statement}
 use Rattle.plane_reader.proofs.placed.Tie as tie
 
-wide-requires : tie.Need-wide-requires
-wide-requires c κs = search needs
+bit-value-requires : tie.Need-bit-value-requires
+bit-value-requires c κs = search needs
 
-power-requires : tie.Need-power-requires
-power-requires c κs = search needs
+plane-weight-requires : tie.Need-plane-weight-requires
+plane-weight-requires c κs = search needs
 
 mul-result : tie.Need-mul-result
 mul-result c =
     let s = c .before .before in
-    rw (c .before .wide .ensures, c .power .ensures) (record { fits = lt-of-le-of-lt (digit-times (s .args .b) (2 ^ s .args .k)) (pow-lt (s .pre)) })
+    rw (c .before .bit-value .ensures, c .plane-weight .ensures) (record { fits = lt-of-le-of-lt (digit-times (s .args .b) (2 ^ s .args .k)) (pow-lt (s .pre)) })
 
 returns : tie.Need-returns
-returns c = rw (c .before .wide .ensures, c .power .ensures)
+returns c = rw (c .before .bit-value .ensures, c .plane-weight .ensures)
 
 pub placed-spec : {M : Type 1} → statement M
-placed-spec = tie.close (tie.spec wide-requires power-requires mul-result returns)
+placed-spec = tie.close (tie.spec bit-value-requires plane-weight-requires mul-result returns)

@@ -3,8 +3,8 @@ use lib.Pow.{pow-pos}
 use native.Mathlib.Omega.{arith}
 use native.Mathlib.Nat.{div-mul-le-self}
 use borrow.Author.Needs.{needs}
-use Rattle.bits.proofs.high.Statement.{statement}
-use Rattle.bits.proofs.high.Tie as tie
+use Rattle.bits.proofs.high_bits.Statement.{statement}
+use Rattle.bits.proofs.high_bits.Tie as tie
 
 power-requires : tie.Need-power-requires
 power-requires c κs = search needs
@@ -18,5 +18,5 @@ mul-result c = omega (arith, div-mul-le-self (c .before .args .x) (c .power .res
 returns : tie.Need-returns
 returns c = rw (c .power .ensures)
 
-pub high-spec : {M : Type 1} → statement M
-high-spec = tie.close (tie.spec power-requires div-result mul-result returns)
+pub high-bits-spec : {M : Type 1} → statement M
+high-bits-spec = tie.close (tie.spec power-requires div-result mul-result returns)
