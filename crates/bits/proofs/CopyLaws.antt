@@ -35,7 +35,8 @@ module _ (s : List Bool) where
       k ∙ rw (g, part-back (i + m) c h, f, p, q) (copied-more d at i m c h)
 
   -- whole bytes after the first m bits
-  pub copied-bytes : {e e′ : List Bool} (d : List Bool) (at i m bytes n start : ℕ) → i + m + 8 * bytes ≤ length s → (0 < bytes → 8 * start ≡ at + m) → n ≡ m + 8 * bytes
+  pub copied-bytes : {e e′ : List Bool} (d : List Bool) (at i m bytes n start : ℕ)
+      → i + m + 8 * bytes ≤ length s → (0 < bytes → 8 * start ≡ at + m) → n ≡ m + 8 * bytes
       → e ≡ sets d at (slice i (i + m) s) → e′ ≡ sets e (8 * start) (slice (i + m) (i + m + 8 * bytes) s) → e′ ≡ sets d at (slice i (i + n) s)
   copied-bytes d at i m zero n start h p q f k =
       let q′ : n ≡ m = omega arith in

@@ -78,9 +78,14 @@ returns c =
     let fits = length-bitsOf (s .args .from .now) in
     let here : skip + 0 ≡ skip = omega arith in
     let none = slice-none bits skip (skip + 0) (omega arith) in
-    let after₁ = copied-part bits d at skip 0 first first _ at (omega (arith, fits)) (omega arith) (omega arith) (rw none) (rw here (got₁ .get-bits .ensures)) (one .put-part .ensures) in
-    let after₂ = copied-bytes bits d at skip first bytes (first + 8 * bytes) _ (omega (arith, fits)) (λ h. omega arith) refl after₁ (two .copy-bytes .ensures) in
-    copied-part bits d at skip (first + 8 * bytes) (count - (first + 8 * bytes)) count _ _ (omega (arith, fits)) refl (omega arith) after₂ (got .get-bits2 .ensures) (three .put-part2 .ensures)
+    let done = first + 8 * bytes in
+    let after₁ =
+    copied-part bits d at skip 0 first first _ at (omega (arith, fits)) (omega arith) (omega arith) (rw none)
+    (rw here (got₁ .get-bits .ensures)) (one .put-part .ensures) in
+    let after₂ =
+    copied-bytes bits d at skip first bytes done _ (omega (arith, fits)) (λ h. omega arith) refl after₁ (two .copy-bytes .ensures) in
+    copied-part bits d at skip done (count - done) count _ _ (omega (arith, fits)) refl (omega arith) after₂
+    (got .get-bits2 .ensures) (three .put-part2 .ensures)
 
 pub copy-bits-spec : {M : Type 1} → statement M
 copy-bits-spec =

@@ -3,7 +3,6 @@ use mathlib.Core.Path.{_≡_, ap, ap₂, _∙_}
 use Prim.Native.Nat.{ℕ, _+_, _^_, _≤_}
 use native.Mathlib.Omega.{arith}
 use mathlib.Core.Bool.{false}
-use lib.Ieee.{top}
 use lib.Pow.{pow-mono}
 use Rattle.words.proofs.Sums.{minus-lt}
 use Rattle.floats.specs.Pattern.{wordSize}

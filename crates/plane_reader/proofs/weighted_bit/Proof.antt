@@ -4,8 +4,8 @@ use lib.Pow.{pow-lt}
 use native.Mathlib.Nat.{lt-of-le-of-lt}
 use Prim.Native.Nat.{_^_}
 use borrow.Author.Needs.{needs}
-use Rattle.plane_reader.proofs.placed.Statement.{statement}
-use Rattle.plane_reader.proofs.placed.Tie as tie
+use Rattle.plane_reader.proofs.weighted_bit.Statement.{statement}
+use Rattle.plane_reader.proofs.weighted_bit.Tie as tie
 
 bit-value-requires : tie.Need-bit-value-requires
 bit-value-requires c κs = search needs
@@ -16,10 +16,11 @@ plane-weight-requires c κs = search needs
 mul-result : tie.Need-mul-result
 mul-result c =
     let s = c .before .before in
-    rw (c .before .bit-value .ensures, c .plane-weight .ensures) (record { fits = lt-of-le-of-lt (digit-times (s .args .b) (2 ^ s .args .k)) (pow-lt (s .pre)) })
+    rw (c .before .bit-value .ensures, c .plane-weight .ensures)
+    (record { fits = lt-of-le-of-lt (digit-times (s .args .b) (2 ^ s .args .k)) (pow-lt (s .pre)) })
 
 returns : tie.Need-returns
 returns c = rw (c .before .bit-value .ensures, c .plane-weight .ensures)
 
-pub placed-spec : {M : Type 1} → statement M
-placed-spec = tie.close (tie.spec bit-value-requires plane-weight-requires mul-result returns)
+pub weighted-bit-spec : {M : Type 1} → statement M
+weighted-bit-spec = tie.close (tie.spec bit-value-requires plane-weight-requires mul-result returns)
