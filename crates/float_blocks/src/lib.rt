@@ -83,7 +83,7 @@ pub fn any_special(ws: &[u32]) -> bool
     false
 }
 
-// Whether every word is.
+// Whether every word is finite, is not -0, and is a whole multiple of 2^(e - 157), or 2^(e - 1085) at 64 bits.
 pub fn all_whole(size: u32, e: u32, ws: &[u64]) -> bool
     requires { ⌜ Size size ⌝ }
     ensures { λ r. ⌜ r ≡ allWhole (formatOf size) e (now (ws .entry)) ⌝ }

@@ -1,15 +1,15 @@
 -- The invariant: the bytes passed hold the first bits. Assumes nothing.
-use Rattle.bits.proofs.CopyLaws.{copied-part}
+use Rattle.bit_ranges.proofs.CopyLaws.{copied-part}
 use Rattle.bits.proofs.StreamLaws.{length-bitsOf, slice-none}
 use Rattle.bits.specs.Stream.{bitsOf}
 use lib.Seq.{sets, slice}
 use lib.ListN.{length}
 use native.Mathlib.Omega.{arith}
 use Prim.Native.Nat.{_+_, _-_, _*_, _≤_}
 use mathlib.Core.Path.{_≡_, refl, _∙_}
 use borrow.Author.Needs.{needs}
-use Rattle.bits.proofs.copy_bytes.Statement.{statement}
-use Rattle.bits.proofs.copy_bytes.Tie as tie
+use Rattle.bit_ranges.proofs.copy_bytes.Statement.{statement}
+use Rattle.bit_ranges.proofs.copy_bytes.Tie as tie
 
 abbrev Inv-loop : tie.InvT-loop
 Inv-loop from skip buf₀ start count i₀ buf i =

@@ -1,13 +1,13 @@
 -- The rest of a byte, whole bytes, and the rest of the bits. Assumes nothing.
-use Rattle.bits.proofs.CopyLaws.{copied-part, copied-bytes}
+use Rattle.bit_ranges.proofs.CopyLaws.{copied-part, copied-bytes}
 use Rattle.bits.proofs.StreamLaws.{length-bitsOf, slice-none}
 use Rattle.bits.specs.Stream.{bitsOf}
 use native.Mathlib.Omega.{arith}
 use Prim.Native.Nat.{_+_, _-_, _*_, _/_}
 use mathlib.Core.Path.{_≡_, refl}
 use borrow.Author.Needs.{needs}
-use Rattle.bits.proofs.copy_bits.Statement.{statement}
-use Rattle.bits.proofs.copy_bits.Tie as tie
+use Rattle.bit_ranges.proofs.copy_bits.Statement.{statement}
+use Rattle.bit_ranges.proofs.copy_bits.Tie as tie
 
 sub-least : tie.Need-sub-least
 sub-least c = search needs

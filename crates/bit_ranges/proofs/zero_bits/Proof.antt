@@ -1,6 +1,6 @@
 -- The invariant: the zeros that are left, stored from here, give what all of them give from the start. Assumes nothing.
-use Rattle.bits.proofs.ZeroLaws.{zeros-more}
+use Rattle.bit_ranges.proofs.ZerosStored.{zeros-more}
 use Rattle.bits.specs.Stream.{bitsOf}
 use lib.Seq.{sets}
 use lib.ListN.{length, replicate}
 use native.Mathlib.Omega.{arith}
@@ -8,8 +8,8 @@ use Prim.Native.Nat.{_-_, _≤_}
 use mathlib.Core.Bool.{false}
 use mathlib.Core.Path.{_≡_, refl, _∙_}
 use borrow.Author.Needs.{needs}
-use Rattle.bits.proofs.zero_bits.Statement.{statement}
-use Rattle.bits.proofs.zero_bits.Tie as tie
+use Rattle.bit_ranges.proofs.zero_bits.Statement.{statement}
+use Rattle.bit_ranges.proofs.zero_bits.Tie as tie
 
 abbrev Inv-loop : tie.InvT-loop
 Inv-loop buf₀ at end i₀ buf i =
