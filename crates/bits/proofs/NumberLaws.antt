@@ -119,8 +119,10 @@ module _ (b k c v : ℕ) where
   pub withBits-bits : (r : ℕ) → numberBits (k + (c + r)) (withBits b k c v) ≡ sets (numberBits (k + (c + r)) b) k (numberBits c v)
   withBits-bits r =
       numberBits-add k (c + r) (withBits b k c v)
-      ∙ ap₂ {C = List Bool} (λ x y. x ++ y) lowest (numberBits-add c r (withBits b k c v / 2 ^ k) ∙ ap₂ {C = List Bool} (λ x y. x ++ y) middle (ap (numberBits r) over-all))
-      ∙ sym (sets-middle (numberBits k b) (numberBits c (b / 2 ^ k)) (numberBits r (b / 2 ^ k / 2 ^ c)) (numberBits c v) (length-numberBits c (b / 2 ^ k) ∙ sym (length-numberBits c v)))
+      ∙ ap₂ {C = List Bool} (λ x y. x ++ y) lowest
+      (numberBits-add c r (withBits b k c v / 2 ^ k) ∙ ap₂ {C = List Bool} (λ x y. x ++ y) middle (ap (numberBits r) over-all))
+      ∙ sym (sets-middle (numberBits k b) (numberBits c (b / 2 ^ k)) (numberBits r (b / 2 ^ k / 2 ^ c)) (numberBits c v)
+      (length-numberBits c (b / 2 ^ k) ∙ sym (length-numberBits c v)))
       ∙ ap₂ {C = List Bool} (λ x i. sets x i (numberBits c v))
       (sym (numberBits-add k (c + r) b ∙ ap {B = List Bool} (λ x. numberBits k b ++ x) (numberBits-add c r (b / 2 ^ k))))
       (length-numberBits k b)
@@ -133,7 +135,8 @@ module _ (b k c v : ℕ) where
 
   pub withBits-lt : (r : ℕ) → b < 2 ^ (r + (k + c)) → withBits b k c v < 2 ^ (r + (k + c))
   withBits-lt r h =
-      let e : 2 ^ (r + (k + c)) ≡ 2 ^ r * 2 ^ c * 2 ^ k = pow-add 2 r (k + c) ∙ ap (λ (n : ℕ). 2 ^ r * n) (pow-add 2 k c ∙ mul-comm (2 ^ k) (2 ^ c)) ∙ sym (mul-assoc (2 ^ r) (2 ^ c) (2 ^ k)) in
+      let e : 2 ^ (r + (k + c)) ≡ 2 ^ r * 2 ^ c * 2 ^ k =
+      pow-add 2 r (k + c) ∙ ap (λ (n : ℕ). 2 ^ r * n) (pow-add 2 k c ∙ mul-comm (2 ^ k) (2 ^ c)) ∙ sym (mul-assoc (2 ^ r) (2 ^ c) (2 ^ k)) in
       rw (whole, e) (digits-lt (digits-lt (shr-lt r (k + c) h) (mod-lt v (pow-pos c))) (mod-lt b (pow-pos k)))
 
 -- a byte stays a byte

@@ -6,10 +6,12 @@ use Prim.Native.Nat.{ℕ, zero, suc, _+_, _-_, _*_, _/_, _%_, _^_, _≤_, _<_, m
 use native.Mathlib.Nat.{zero-add, suc-add}
 use native.Mathlib.Omega.{arith}
 use lib.ListN.{length, getD, set, take, drop, length-append, take-append-drop, List·getD-append}
-use lib.Seq.{sets, set-append-left, length-sets, getD-append-add, take-append-seam, drop-append-seam, take-append-le, drop-append-add, drop-at, slice, slice-cons, slice-empty, length-slice, take-nil, take-take, drop-drop}
+use lib.Seq.{sets, set-append-left, length-sets, getD-append-add, take-append-seam, drop-append-seam, take-append-le, drop-append-add, drop-at}
+use lib.Seq.{slice, slice-cons, slice-empty, length-slice, take-nil, take-take, drop-drop}
 use Rattle.bits.specs.Stream.{bit, digit, numberBits, numberOf, bitsOf}
 use Rattle.bits.specs.Calls.{withBits}
-use Rattle.bits.proofs.NumberLaws.{length-numberBits, numberBits-add, numberBits-take, getD-numberBits, number-back, number-low, numberOf-append, numberOf-lt, withBits-bits}
+use Rattle.bits.proofs.NumberLaws.{length-numberBits, numberBits-add, numberBits-take, getD-numberBits}
+use Rattle.bits.proofs.NumberLaws.{number-back, number-low, numberOf-append, numberOf-lt, withBits-bits}
 
 pub length-bitsOf : (l : List ℕ) → length (bitsOf l) ≡ 8 * length l
 length-bitsOf [] = refl
@@ -55,7 +57,9 @@ withBits-stream [] i k c v hi hk = absurd (omega arith)
 withBits-stream (b ∷ bs) zero k c v hi hk =
     let e : k + (c + (8 - (k + c))) ≡ 8 = omega arith in
     let w = rw e at (withBits-bits b k c v (8 - (k + c))) in
-    rw zero-add (ap {B = List Bool} (λ l. l ++ bitsOf bs) w ∙ sym (sets-left (numberBits 8 b) (bitsOf bs) k (numberBits c v) (omega (arith, length-numberBits 8 b, length-numberBits c v))))
+    rw zero-add
+    (ap {B = List Bool} (λ l. l ++ bitsOf bs) w
+    ∙ sym (sets-left (numberBits 8 b) (bitsOf bs) k (numberBits c v) (omega (arith, length-numberBits 8 b, length-numberBits c v))))
 withBits-stream (b ∷ bs) (suc i) k c v hi hk =
     rw (past b i k, sets-right (numberBits 8 b) (bitsOf bs) (8 * i + k) (numberBits c v), withBits-stream bs i k c v (omega arith) hk)
 

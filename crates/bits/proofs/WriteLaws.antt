@@ -8,7 +8,8 @@ use native.Mathlib.Decide.{decLe}
 use native.Mathlib.Omega.{arith}
 use lib.ListN.{length, getD, set, take, length-append, length-take, drop}
 use mathlib.Core.Logic.{_⊎_, inl, inr}
-use lib.Seq.{slice, take-set-le, take-set-lt, drop-set-lt, length-take-le, take-add, take-append-add, drop-at, sets-eq, sets, length-sets, take-nil, take-all, getD-set-other}
+use lib.Seq.{slice, take-set-le, take-set-lt, drop-set-lt, length-take-le, take-add, take-append-add, drop-at}
+use lib.Seq.{sets-eq, sets, length-sets, take-nil, take-all, getD-set-other}
 use Rattle.bits.specs.declared.Cursor.{Cursor}
 use Rattle.bits.specs.Stream.{numberBits, write}
 use Rattle.bits.specs.Calls.{Written}
@@ -28,7 +29,8 @@ unfolding write
 write-none d at limit = rw take-nil
 
 -- below the limit the first bit is stored, then the rest
-pub write-first : (d : List Bool) (at limit : ℕ) (b : Bool) (code : List Bool) → at < limit → write d at limit (b ∷ code) ≡ write (set d at b) (suc at) limit code
+pub write-first : (d : List Bool) (at limit : ℕ) (b : Bool) (code : List Bool) → at < limit
+    → write d at limit (b ∷ code) ≡ write (set d at b) (suc at) limit code
 unfolding write
 write-first d at limit b code h = let e : limit - at ≡ suc (limit - suc at) = omega arith in rw e
 
@@ -49,7 +51,11 @@ write-append d at limit (x ∷ xs) ys = go (decLe (suc at) limit) (write-append 
         let e : at + suc (length xs) ≡ suc at + length xs = omega arith in
         rw (write-first d at limit x (xs ++ ys) h, write-first d at limit x xs h, e) r
     go (no h) r =
-        rw (write-past d at limit (x ∷ (xs ++ ys)) (omega arith), write-past d at limit (x ∷ xs) (omega arith), write-past d (at + suc (length xs)) limit ys (omega arith))
+        rw (
+          write-past d at limit (x ∷ (xs ++ ys)) (omega arith),
+          write-past d at limit (x ∷ xs) (omega arith),
+          write-past d (at + suc (length xs)) limit ys (omega arith),
+        )
 
 -- a run of stores in two parts
 pub sets-append {ℓ} : {A : Type ℓ} (d : List A) (at : ℕ) (xs ys : List A) → sets d at (xs ++ ys) ≡ sets (sets d at xs) (at + length xs) ys
@@ -123,10 +129,13 @@ slice-write d at limit end code h k l =
     let first : length (take n d) ≡ n = length-take-le n d (omega arith) in
     let e : end ≡ length (take at d ++ code) + (end - n) = omega arith in
     let e′ : end ≡ n + (end - n) = omega arith in
+    let left = take (end - n) (drop n d) in
     ap (λ (x : List Bool). slice at end x) (write-whole d at limit code h ∙ sets-eq code d at (omega arith))
-    ∙ ap (drop at) (ap (λ (i : ℕ). take i (take at d ++ code ++ drop n d)) e ∙ take-append-add (take at d ++ code) (drop n d) (end - n) ∙ append-assoc (take at d) code (take (end - n) (drop n d)))
-    ∙ drop-at (take at d) (code ++ take (end - n) (drop n d)) at before
-    ∙ ap (λ (x : List Bool). code ++ x) (sym (ap (λ (i : ℕ). drop n (take i d)) e′ ∙ ap (drop n) (take-add n (end - n) d) ∙ drop-at (take n d) (take (end - n) (drop n d)) n first))
+    ∙ ap (drop at)
+    (ap (λ (i : ℕ). take i (take at d ++ code ++ drop n d)) e ∙ take-append-add (take at d ++ code) (drop n d) (end - n)
+    ∙ append-assoc (take at d) code left)
+    ∙ drop-at (take at d) (code ++ left) at before
+    ∙ ap (λ (x : List Bool). code ++ x) (sym (ap (λ (i : ℕ). drop n (take i d)) e′ ∙ ap (drop n) (take-add n (end - n) d) ∙ drop-at (take n d) left n first))
 
 -- what one part wrote, and then another
 pub written-none : (d : List Bool) (out : Cursor) (limit : ℕ) → Written d d out limit [] out

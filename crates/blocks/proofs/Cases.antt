@@ -5,9 +5,9 @@ use mathlib.Core.List.{List, [], _∷_, _++_}
 use Prim.Native.Nat.{ℕ}
 use lib.ListN.{replicate}
 use Rattle.words.specs.Word.{plus, minus, half, nega, unnega}
-use Rattle.blocks.specs.Four.{lift, twiceLess, unlift, differ}
+use Rattle.transforms.specs.Four.{lift, twiceLess, unlift, differ}
 use Rattle.blocks.specs.Axes.{along, forward, backward}
-use Rattle.blocks.specs.Order.{reorder, restore}
+use Rattle.order.specs.Order.{reorder, restore}
 use Rattle.blocks.specs.Coefficients.{coefficients, values}
 
 -- 16 words of which one is not 0: 2 at the end of the first row, 1 in row 1 and column 1

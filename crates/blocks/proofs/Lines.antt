@@ -8,11 +8,11 @@ use lib.Arith.{digits-lt, digits-div, digits-mod}
 use lib.ListN.{length, getD}
 use lib.Seq.{ext-getD}
 use Rattle.words.specs.Word.{AllBelow}
-use Rattle.blocks.specs.Four.{Transform}
-use Rattle.blocks.specs.Axes.{line, along}
-use Rattle.blocks.specs.Calls.{onFour}
-use Rattle.blocks.proofs.Lists.{length-tabulate, getD-tabulate, words-tabulate}
-use Rattle.blocks.proofs.Steps.{Keeps, Undoes}
+use Rattle.transforms.specs.Four.{Transform}
+use Rattle.blocks.specs.Axes.{line, inLine, lineStart, along}
+use Rattle.transforms.specs.Calls.{onFour}
+use Rattle.order.proofs.Lists.{length-tabulate, getD-tabulate, words-tabulate}
+use Rattle.transforms.proofs.Steps.{Keeps, Undoes}
 
 module _ (t : Transform) (s : ℕ) (ws : List ℕ) where
   pub length-along : length (along t s ws) ≡ length ws
@@ -21,9 +21,9 @@ module _ (t : Transform) (s : ℕ) (ws : List ℕ) where
 
   pub words-along : (k : ℕ) → Keeps k t → AllBelow (2 ^ k) ws → AllBelow (2 ^ k) (along t s ws)
   unfolding along
-  words-along k keeps h = words-tabulate k (length ws) _ (λ p. keeps _ _ _ _ (h _) (h _) (h _) (h _) (p / s % 4))
+  words-along k keeps h = words-tabulate k (length ws) _ (λ p. keeps _ _ _ _ (h _) (h _) (h _) (h _) (inLine s p))
 
-  along-at : (p : ℕ) → p < length ws → getD (along t s ws) p 0 ≡ getD (line t s (p - p / s % 4 * s) ws) (p / s % 4) 0
+  along-at : (p : ℕ) → p < length ws → getD (along t s ws) p 0 ≡ getD (line t s (lineStart s p) ws) (inLine s p) 0
   unfolding along
   along-at p h = getD-tabulate (length ws) _ p 0 h
 
@@ -31,10 +31,10 @@ module _ (t : Transform) (s : ℕ) (ws : List ℕ) where
 module _ (s m p : ℕ) (some : 0 < s) (inside : p < m * 4 * s) where
   -- its number in the line, the line's start, and how many strides of four lines lie before it
   abbrev nth : ℕ
-  nth = p / s % 4
+  nth = inLine s p
 
   abbrev start : ℕ
-  start = p - nth * s
+  start = lineStart s p
 
   abbrev lines : ℕ
   lines = p / s / 4
@@ -51,7 +51,7 @@ module _ (s m p : ℕ) (some : 0 < s) (inside : p < m * 4 * s) where
   at : (j : ℕ) → start + j * s ≡ (lines * 4 + j) * s + p % s
   at j = rw (add-mul (lines * 4) j s) (omega (arith, start-is))
 
-  at-number : (j : ℕ) → j < 4 → (start + j * s) / s % 4 ≡ j
+  at-number : (j : ℕ) → j < 4 → inLine s (start + j * s) ≡ j
   at-number j h = rw (at j) (ap (λ (x : ℕ). x % 4) (digits-div (lines * 4 + j) (mod-lt p some)) ∙ digits-mod lines h)
 
   at-inside : (j : ℕ) → j < 4 → start + j * s < m * 4 * s
@@ -78,9 +78,9 @@ pick s b ws (suc (suc (suc (suc q)))) h = absurd (omega arith)
 -- where g undoes f on the words of a line, it does so on every line
 module _ (k : ℕ) (g f : Transform) (undoes : Undoes k g f) (s m : ℕ) (some : 0 < s)
     (ws : List ℕ) (long : length ws ≡ m * 4 * s) (words : AllBelow (2 ^ k) ws) where
-  line-back : (p : ℕ) → p < m * 4 * s → getD (line g s (p - p / s % 4 * s) (along f s ws)) (p / s % 4) 0 ≡ getD ws p 0
+  line-back : (p : ℕ) → p < m * 4 * s → getD (line g s (lineStart s p) (along f s ws)) (inLine s p) 0 ≡ getD ws p 0
   line-back p h =
-      let b = p - p / s % 4 * s in
+      let b = lineStart s p in
       let a = along f s ws in
       let at = line-at s m p some h f ws long in
       let e₀ : getD a b 0 ≡ getD (line f s b ws) 0 0 = ap (λ (x : ℕ). getD a x 0) (omega arith) ∙ at 0 (omega arith) in
@@ -89,8 +89,8 @@ module _ (k : ℕ) (g f : Transform) (undoes : Undoes k g f) (s m : ℕ) (some :
       let e₃ = at 3 (omega arith) in
       let e : line g s b a ≡ onFour g (line f s b ws) = rw (e₀, e₁, e₂, e₃) in
       let u = undoes (getD ws b 0) (getD ws (b + s) 0) (getD ws (b + 2 * s) 0) (getD ws (b + 3 * s) 0) (words _) (words _) (words _) (words _) in
-      ap (λ (l : List ℕ). getD l (p / s % 4) 0) (e ∙ u)
-      ∙ pick s b ws (p / s % 4) (mod-lt (p / s) (zero-lt-suc 3))
+      ap (λ (l : List ℕ). getD l (inLine s p) 0) (e ∙ u)
+      ∙ pick s b ws (inLine s p) (mod-lt (p / s) (zero-lt-suc 3))
       ∙ ap (λ (x : ℕ). getD ws x 0) (own s m p some h)
 
   pub along-back : along g s (along f s ws) ≡ ws

@@ -5,12 +5,13 @@ use mathlib.Core.List.{List, [], _∷_}
 use Prim.Native.Nat.{ℕ}
 use lib.ListN.{length, getD}
 use Rattle.words.specs.Word.{nega, unnega}
-use Rattle.blocks.specs.Four.{unlift, undiffer, writing, reading}
-use Rattle.blocks.specs.Axes.{tabulate, along}
-use Rattle.blocks.specs.Calls.{onFour}
-use Rattle.blocks.specs.Order.{reorder, restore}
+use Rattle.transforms.specs.Four.{unlift, undiffer, writing, reading}
+use Rattle.order.specs.Lists.{tabulate}
+use Rattle.blocks.specs.Axes.{along}
+use Rattle.transforms.specs.Calls.{onFour}
+use Rattle.order.specs.Order.{reorder, restore}
 use Rattle.blocks.specs.Coefficients.{coefficients, values}
-use Rattle.blocks.proofs.Lists.{tabulate-getD}
+use Rattle.order.proofs.Lists.{tabulate-getD}
 
 module _ (k x y z w : ℕ) where
   coefficients-four : (exact : Bool) → tabulate 4 (λ i. nega k (getD (writing k exact x y z w) i 0)) ≡ coefficients k exact 1 (x ∷ y ∷ z ∷ w ∷ [])

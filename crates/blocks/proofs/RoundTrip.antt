@@ -6,9 +6,9 @@ use Prim.Native.Nat.{ℕ, zero, suc, _*_, _^_, _<_}
 use native.Mathlib.Nat.{zero-lt-suc, one-le-pow, pow-succ', mul-assoc, one-mul}
 use lib.ListN.{length}
 use Rattle.words.specs.Word.{AllBelow}
-use Rattle.blocks.specs.Four.{differ, undiffer, writing, reading}
+use Rattle.transforms.specs.Four.{differ, undiffer, writing, reading}
 use Rattle.blocks.specs.Axes.{along, forward, backward}
-use Rattle.blocks.proofs.Steps.{Keeps, keeps-differ, keeps-undiffer, undiffer-differ, differ-undiffer}
+use Rattle.transforms.proofs.Steps.{Keeps, keeps-differ, keeps-undiffer, undiffer-differ, differ-undiffer}
 use Rattle.blocks.proofs.Lines.{length-along, words-along, along-back}
 
 module _ (w : ℕ) (exact : Bool) where

@@ -3,7 +3,7 @@ use mathlib.Core.Path.{_≡_, refl}
 use mathlib.Core.Bool.{Bool}
 use mathlib.Core.List.{List}
 use Prim.Native.Nat.{ℕ}
-use Rattle.blocks.specs.Four.{Transform, writing, reading}
+use Rattle.transforms.specs.Four.{Transform, writing, reading}
 use Rattle.blocks.specs.Axes.{along, forward, backward}
 use Rattle.blocks.specs.Calls.{flat, eachRow, transposed}
 

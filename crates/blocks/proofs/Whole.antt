@@ -7,22 +7,13 @@ use lib.ListN.{length, length-map}
 use Rattle.words.specs.Word.{nega, unnega, AllBelow}
 use Rattle.words.proofs.Negabinary.{nega-lt, unnega-lt, unnega-nega, nega-unnega}
 use Rattle.blocks.specs.Axes.{forward, backward}
-use Rattle.blocks.specs.Order.{order, reorder, restore, inOrder, entryOf}
+use Rattle.order.specs.Order.{order, reorder, restore, inOrder}
 use Rattle.blocks.specs.Coefficients.{coefficients, values}
-use Rattle.blocks.proofs.Lists.{words-tabulate, words-map, map-back}
-use Rattle.blocks.proofs.Steps.{keeps-reading, keeps-differ}
+use Rattle.order.proofs.Lists.{words-map, map-back}
+use Rattle.transforms.proofs.Steps.{keeps-reading, keeps-differ}
 use Rattle.blocks.proofs.RoundTrip.{length-forward, length-backward, words-forward, words-backward, backward-forward, forward-backward}
-use Rattle.blocks.proofs.Tables.{length-reorder, length-restore, restore-reorder, reorder-restore}
-use Rattle.blocks.proofs.Orders.{ordered}
-
-module _ (w : ℕ) (t ws : List ℕ) (words : AllBelow (2 ^ w) ws) where
-  pub words-reorder : AllBelow (2 ^ w) (reorder t ws)
-  unfolding reorder
-  words-reorder = words-map w _ (λ p. words p) t
-
-  pub words-restore : AllBelow (2 ^ w) (restore t ws)
-  unfolding restore
-  words-restore = words-tabulate w (length t) _ (λ p. words (entryOf p t))
+use Rattle.order.proofs.Tables.{length-reorder, length-restore, words-reorder, words-restore, restore-reorder, reorder-restore}
+use Rattle.order.proofs.Orders.{ordered}
 
 pub words-coefficients : (w : ℕ) (exact : Bool) (d : ℕ) (ws : List ℕ) → AllBelow (2 ^ w) (coefficients w exact d ws)
 unfolding coefficients

@@ -1,13 +1,10 @@
--- What the contracts of `blocks` need beside document 01's definitions: four values in a list, and a block of dimension 2 as four rows of four values.
+-- What the contracts of `blocks` need beside document 01's definitions: a block of dimension 2 as four rows of four values.
 use mathlib.Core.List.{List, []}
 use Prim.Native.Nat.{ℕ, _*_, _/_, _%_}
 use lib.ListN.{getD}
-use Rattle.blocks.specs.Four.{Transform}
-use Rattle.blocks.specs.Axes.{tabulate, line}
-
--- t of four values in a list
-abbrev pub onFour : Transform → List ℕ → List ℕ
-onFour t q = line t 1 0 q
+use Rattle.transforms.specs.Four.{Transform}
+use Rattle.order.specs.Lists.{tabulate}
+use Rattle.transforms.specs.Calls.{onFour}
 
 -- "four rows of four values, place i + 4j for column i, row j"
 abbrev pub flat : List (List ℕ) → List ℕ

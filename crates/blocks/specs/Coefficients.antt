@@ -4,7 +4,7 @@ use mathlib.Core.List.{List, map}
 use Prim.Native.Nat.{ℕ}
 use Rattle.words.specs.Word.{nega, unnega}
 use Rattle.blocks.specs.Axes.{forward, backward}
-use Rattle.blocks.specs.Order.{order, reorder, restore}
+use Rattle.order.specs.Order.{order, reorder, restore}
 
 -- the negabinary coefficients of a block of words, in their order
 unfoldable pub coefficients : ℕ → Bool → ℕ → List ℕ → List ℕ

@@ -1,16 +1,14 @@
 // Blocks of words: document 01's "From words to coefficients", and back, in both dimensions and modes.
-mod arrange;
 mod square;
-mod transform;
 
-use crate::arrange::arranged;
-use crate::arrange::placed;
 use crate::square::flat_of;
 use crate::square::read_square;
 use crate::square::square_of;
 use crate::square::write_square;
-use crate::transform::read_four;
-use crate::transform::write_four;
+use order::arranged;
+use order::placed;
+use transforms::read_four;
+use transforms::write_four;
 use words::nega;
 use words::unnega;
 ghost use mathlib.Core.Path.{_≡_};

@@ -1,10 +1,10 @@
 // A block of dimension 2, four rows of four values by value: its rows and columns, and its flat form.
-use crate::transform::read_four;
-use crate::transform::write_four;
+use transforms::read_four;
+use transforms::write_four;
 ghost use mathlib.Core.Path.{_≡_};
 ghost use Prim.Native.Nat.{_^_, _≤_, _<_};
 ghost use lib.ListN.{length};
-ghost use Rattle.blocks.specs.Four.{writing, reading};
+ghost use Rattle.transforms.specs.Four.{writing, reading};
 ghost use Rattle.blocks.specs.Axes.{along, forward, backward};
 ghost use Rattle.blocks.specs.Calls.{flat, eachRow, columnOf, transposed};
 

@@ -11,11 +11,12 @@ use lib.Ieee.{ofBits, toBits, round}
 use Rattle.words.specs.Word.{plus, minus, half, nega, unnega, flip}
 use Rattle.planes.specs.Coder.{planeCode, planeNext, planesCode}
 use Rattle.planes.specs.Reader.{readPlane, readNext, readWords}
-use Rattle.blocks.specs.Four.{twiceLess, lift, unlift, differ, undiffer}
+use Rattle.transforms.specs.Four.{twiceLess, lift, unlift, differ, undiffer}
 use Rattle.blocks.specs.Axes.{along}
-use Rattle.blocks.specs.Order.{reorder, restore}
+use Rattle.order.specs.Order.{reorder, restore}
 use Rattle.blocks.specs.Coefficients.{coefficients, values}
-use Rattle.floats.specs.Integer.{signed, toInteger, scaled, toPattern, whole}
+use Rattle.floats.specs.Integer.{signed, toInteger, whole}
+use Rattle.rounding.specs.Rounded.{scaled, toPattern}
 use Rattle.codec.specs.Head.{planesNeeded, exactPlanes}
 use Rattle.codec.specs.Code.{lossyIntegers, lossyFloats, exactIntegers, exactFloats, definedCode}
 use Rattle.codec.specs.Read.{readIntegers, readLossyFloats, readExactFloats, readCode}

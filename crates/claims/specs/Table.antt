@@ -10,7 +10,7 @@ use Rattle.words.specs.Word.{half, nega, unnega}
 use Rattle.planes.specs.Coder.{planeCode, planeNext}
 use Rattle.planes.specs.Reader.{readWords}
 use Rattle.blocks.specs.Coefficients.{coefficients}
-use Rattle.floats.specs.Integer.{toPattern}
+use Rattle.rounding.specs.Rounded.{toPattern}
 use Rattle.codec.specs.Code.{definedCode}
 use Rattle.params.specs.declared.Params.{Params}
 use Rattle.slots.specs.Outcome.{Fetched, countOutcome, storeOutcome, readOutcome, slotIn, slotOf}

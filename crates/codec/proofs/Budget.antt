@@ -10,7 +10,7 @@ use lib.Seq.{take-append-add, take-nil}
 use Rattle.bits.specs.Stream.{numberBits}
 use Rattle.bits.proofs.NumberLaws.{length-numberBits}
 use Rattle.floats.specs.Pattern.{fieldBits}
-use Rattle.floats.specs.Block.{blockExponent, noMagnitude}
+use Rattle.float_blocks.specs.Block.{blockExponent, noMagnitude}
 use Rattle.floats.specs.Integer.{toInteger}
 use Rattle.codec.specs.Code.{lossyPlanes, lossyIntegers, lossyFloats, definedCode}
 use Rattle.codec.specs.Calls.{uncutFloats, uncutCode}

@@ -12,12 +12,12 @@ use Rattle.bits.proofs.NumberLaws.{length-numberBits}
 use Rattle.words.specs.Word.{flip}
 use Rattle.planes.specs.Coder.{planesCode}
 use Rattle.planes.proofs.Bound.{bound}
-use Rattle.blocks.specs.Order.{order, inOrder}
+use Rattle.order.specs.Order.{order, inOrder}
 use Rattle.blocks.specs.Coefficients.{coefficients}
 use Rattle.blocks.proofs.Whole.{length-coefficients}
 use Rattle.floats.specs.Pattern.{wordSize, fieldBits}
 use Rattle.floats.specs.Integer.{toInteger}
-use Rattle.floats.specs.Block.{blockExponent, allZero, allWhole}
+use Rattle.float_blocks.specs.Block.{blockExponent, allZero, allWhole}
 use Rattle.codec.specs.Head.{planesNeeded, countBits, exactPlanes}
 use Rattle.codec.specs.Code.{exactIntegers, exactFloats}
 use Rattle.codec.proofs.Needed.{needed-range}

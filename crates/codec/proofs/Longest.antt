@@ -11,7 +11,7 @@ use Rattle.bits.specs.Stream.{numberBits}
 use Rattle.bits.proofs.NumberLaws.{length-numberBits}
 use Rattle.planes.specs.Coder.{any}
 use Rattle.planes.proofs.Tight.{onesOf, onesOf-code, onesOf-below, ones-plane}
-use Rattle.blocks.specs.Order.{order, inOrder}
+use Rattle.order.specs.Order.{order, inOrder}
 use Rattle.blocks.specs.Coefficients.{values}
 use Rattle.blocks.proofs.Whole.{words-values, length-values, coefficients-values}
 use Rattle.floats.specs.Pattern.{wordSize}

@@ -4,8 +4,8 @@ use mathlib.Core.Bool.{true, false}
 use mathlib.Core.List.{List}
 use Prim.Native.Nat.{ℕ}
 use Rattle.floats.specs.Calls.{formatOf}
-use Rattle.floats.specs.Block.{blockExponent, anySpecial, allWhole}
-use Rattle.floats.proofs.Blocks.{fields-ready, whole-none-special}
+use Rattle.float_blocks.specs.Block.{blockExponent, anySpecial, allWhole}
+use Rattle.float_blocks.proofs.Blocks.{fields-ready, whole-none-special}
 use Rattle.codec.specs.declared.change.Change.the-variants.{ToInteger}
 use Rattle.codec.specs.Calls.{Ready}
 

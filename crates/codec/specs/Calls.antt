@@ -13,7 +13,8 @@ use Rattle.planes.specs.Coder.{planesCode}
 use Rattle.blocks.specs.Coefficients.{coefficients}
 use Rattle.floats.specs.Pattern.{wordSize, exponentField}
 use Rattle.floats.specs.Calls.{formatOf}
-use Rattle.floats.specs.Integer.{toInteger, toPattern}
+use Rattle.floats.specs.Integer.{toInteger}
+use Rattle.rounding.specs.Rounded.{toPattern}
 use Rattle.codec.specs.declared.change.Change.{Change}
 use Rattle.codec.specs.declared.change.Change.the-variants.{ToInteger, ToPattern, Flip}
 use Rattle.codec.specs.Head.{exactPlanes}

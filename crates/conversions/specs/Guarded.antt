@@ -4,7 +4,8 @@ use Prim.Native.Nat.{ℕ}
 use lib.Dec.{ltb}
 use lib.Ieee.{binary32}
 use Rattle.floats.specs.Pattern.{exponentField}
-use Rattle.floats.specs.Integer.{toInteger, toPattern}
+use Rattle.floats.specs.Integer.{toInteger}
+use Rattle.rounding.specs.Rounded.{toPattern}
 
 -- for e from 0 to 255
 unfoldable pub patternAt : ℕ → ℕ → ℕ

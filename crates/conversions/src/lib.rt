@@ -7,7 +7,7 @@ pub extern "C" fn windlassow_to_pattern(e: u32, i: u32) -> u32
     ensures { λ r. ⌜ r ≡ patternAt e i ⌝ }
 {
     if e < 256 {
-        floats::to_pattern(32, e, i as u64) as u32
+        rounding::to_pattern(32, e, i as u64) as u32
     } else {
         0
     }

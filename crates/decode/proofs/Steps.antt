@@ -16,8 +16,8 @@ use Rattle.planes.specs.Reader.{readWords}
 use Rattle.plane_reader.specs.Calls.{PlanesRead}
 use Rattle.words.specs.Word.{flip}
 use Rattle.floats.specs.Pattern.{wordSize, fieldBits}
-use Rattle.floats.specs.Integer.{toPattern}
-use Rattle.floats.specs.Block.{blockExponent, allZero, allWhole}
+use Rattle.rounding.specs.Rounded.{toPattern}
+use Rattle.float_blocks.specs.Block.{blockExponent, allZero, allWhole}
 use Rattle.codec.specs.Head.{countBits}
 use Rattle.codec.specs.Read.{readCoefficients, readIntegers, scaledBy}
 use Rattle.codec.specs.Calls.Padded.{smallest, paddedPlanes, multiples, others, paddedMultiples, paddedFlipped}

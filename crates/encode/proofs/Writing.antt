@@ -11,7 +11,7 @@ use Rattle.bits.proofs.WriteLaws.{written-append}
 use Rattle.words.specs.Word.{flip}
 use Rattle.floats.specs.Pattern.{wordSize, fieldBits}
 use Rattle.floats.specs.Integer.{toInteger}
-use Rattle.floats.specs.Block.{blockExponent, noMagnitude, allZero, allWhole}
+use Rattle.float_blocks.specs.Block.{blockExponent, noMagnitude, allZero, allWhole}
 use Rattle.codec.specs.Code.{exactIntegers, exactFloats}
 use Rattle.codec.specs.Calls.{integersCode, uncutFloats, uncutCode}
 

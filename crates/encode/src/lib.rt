@@ -10,7 +10,7 @@ ghost use Rattle.words.specs.Calls.{Size};
 ghost use Rattle.floats.specs.Pattern.{fieldBits};
 ghost use Rattle.floats.specs.Calls.{formatOf};
 ghost use Rattle.floats.specs.Integer.{toInteger};
-ghost use Rattle.floats.specs.Block.{anySpecial};
+ghost use Rattle.float_blocks.specs.Block.{anySpecial};
 ghost use Rattle.codec.specs.declared.change.Change.the-variants.{ToInteger};
 ghost use Rattle.codec.specs.Head.{exactPlanes};
 ghost use Rattle.codec.specs.Calls.{Shape, changed, Ready, coefficientsCode, integersCode, uncutFloats, uncutCode};
@@ -181,12 +181,12 @@ fn put_exact_floats(
     ensures { λ r. ⌜ Written (bitsOf (now (buf .entry))) (bitsOf (now (buf .exit))) out limit
         (exactFloats (formatOf size) d (now (words .entry))) (r .out) ⌝ }
 {
-    if floats::all_zero(words) {
+    if float_blocks::all_zero(words) {
         let next = bits::put(buf, out, limit, false);
         return Coded { out: next };
     }
-    let e = floats::block_exponent(size, words);
-    if floats::all_whole(size, e, words) {
+    let e = float_blocks::block_exponent(size, words);
+    if float_blocks::all_whole(size, e, words) {
         // Bits 1 0.
         let next = bits::put_number(buf, out, limit, 1, 2);
         put_scaled(size, true, d, p, e, words, buf, next, limit)
@@ -212,11 +212,11 @@ fn put_lossy_floats(
     ensures { λ r. ⌜ Written (bitsOf (now (buf .entry))) (bitsOf (now (buf .exit))) out limit
         (uncutFloats (formatOf size) d p (now (words .entry))) (r .out) ⌝ }
 {
-    if floats::no_magnitude(size, words) {
+    if float_blocks::no_magnitude(size, words) {
         let next = bits::put(buf, out, limit, false);
         return Coded { out: next };
     }
-    let e = floats::block_exponent(size, words);
+    let e = float_blocks::block_exponent(size, words);
     let first = bits::put(buf, out, limit, true);
     put_scaled(size, false, d, p, e, words, buf, first, limit)
 }

@@ -9,9 +9,9 @@ use Rattle.floats.specs.Pattern.{exponentField, fraction}
 abbrev pub formatOf : ℕ → Format
 formatOf w = cond (eqb w 32) binary32 binary64
 
--- a finite pattern's magnitude is digits * 2 ^ place of the format's smallest values; a field of 0 has no leading one, and counts as a field of 1
+-- a finite pattern's magnitude is digits * 2 ^ digitPlace of the format's smallest values; a field of 0 has no leading one, and counts as a field of 1
 abbrev pub digits : Format → ℕ → ℕ
 digits f w = cond (eqb (exponentField f w) 0) (fraction f w) (hid f + fraction f w)
 
-abbrev pub place : Format → ℕ → ℕ
-place f w = exponentField f w - 1
+abbrev pub digitPlace : Format → ℕ → ℕ
+digitPlace f w = exponentField f w - 1

@@ -1,12 +1,13 @@
--- Patterns to integers and back, as document 01's "Around the planes" has it for kind 1.
+-- Patterns to integers, as document 01's "Around the planes" has it for kind 1.
 use mathlib.Core.Bool.{Bool, false, not, _&&_, cond}
 use Prim.Native.Nat.{ℕ, _+_, _-_, _*_, _/_, _%_, _^_}
 use lib.Dec.{eqb}
-use lib.Ieee.{Float, nan, inf, fin, Format, emax, up, down, round, toBits, ofBits}
+use lib.Ieee.{Float, nan, inf, fin, Format, emax, up, down, ofBits}
 use Rattle.words.specs.Word.{minus}
-use Rattle.floats.specs.Pattern.{wordSize, negative, special, minusZero}
+use Rattle.floats.specs.Pattern.{wordSize, special, minusZero}
 
--- document 01's factor 2 ^ (30 - m), with m = e - 127, is 2 ^ 157 / 2 ^ e: its 30 is the word size less 2, its 127 the bias. At 64 bits 2 ^ (62 - m) is 2 ^ 1085 / 2 ^ e
+-- document 01's factor 2 ^ (30 - m), with m = e - 127, is 2 ^ 157 / 2 ^ e: its 30 is the word size less 2, its 127 the bias.
+-- At 64 bits 2 ^ (62 - m) is 2 ^ 1085 / 2 ^ e
 abbrev pub scale : Format → ℕ
 scale f = wordSize f - 2 + emax f
 
@@ -16,25 +17,15 @@ unfolding minus
 signed f s x = cond s (minus (wordSize f) 0 x) x
 
 -- a value times 2 ^ (30 - m), cut toward zero; the value fin s d x is d * 2 ^ x, and 2 ^ x is up x / down x
-abbrev pub cut : Format → ℕ → Float → ℕ
-cut f e nan = 0
-cut f e (inf s) = 0
-cut f e (fin s d x) = signed f s (d * up x * 2 ^ scale f / (down x * 2 ^ e))
+abbrev pub truncated : Format → ℕ → Float → ℕ
+truncated f e nan = 0
+truncated f e (inf s) = 0
+truncated f e (fin s d x) = signed f s (d * up x * 2 ^ scale f / (down x * 2 ^ e))
 
 -- "the integers are the values times 2^(30-m), m = e - 127, cut toward zero"
 unfoldable pub toInteger : Format → ℕ → ℕ → ℕ
 unfolding ofBits signed
-toInteger f e w = cut f e (ofBits f w)
-
--- the pattern of a magnitude g times 2 ^ (m - 30), which is g * 2 ^ e / 2 ^ 157: rounded once to nearest, ties to even, overflow to the signed infinity
-unfoldable pub scaled : Format → Bool → ℕ → ℕ → ℕ
-unfolding round toBits
-scaled f s g e = toBits f (round f s (g * 2 ^ e) (2 ^ scale f))
-
--- "integer times 2^(m-30) with m from any e", 0 to +0; any other integer keeps its sign, also when it rounds to zero
-unfoldable pub toPattern : Format → ℕ → ℕ → ℕ
-unfolding scaled signed
-toPattern f e i = scaled f (negative f i) (signed f (negative f i) i) e
+toInteger f e w = truncated f e (ofBits f w)
 
 -- whether a value is a whole multiple of 2 ^ (m - 30)
 abbrev pub multiple : Format → ℕ → Float → Bool

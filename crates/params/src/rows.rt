@@ -32,7 +32,7 @@ pub fn row(number: u32, applies: bool, rest: u32) -> u32
 }
 
 // Rows 1 to 5 of a call that allows the kinds and the modes from these on, and the dimensions up to `top`.
-pub fn parameter_row_of(kind: u32, mode: u32, top: u32, p: Params) -> u32
+fn parameter_row_of(kind: u32, mode: u32, top: u32, p: Params) -> u32
     ensures { λ r. ⌜ r ≡ first (parameterRowsOf kind mode top p) ⌝ }
 {
     let after = row(4, !within(1, p.planes, 32), row(5, !good_width(p.width), 0));

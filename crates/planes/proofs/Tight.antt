@@ -71,7 +71,8 @@ ones-high j k = rw (ones-split, high (2 ^ j - 1) k (ones-lt k))
 ones-bit : (w k : ℕ) → k < w → bit k (2 ^ w - 1) ≡ true
 ones-bit w k h =
     let e : w ≡ suc (w - suc k) + k = omega arith in
-    let o : (2 ^ w - 1) / 2 ^ k % 2 ≡ 1 = ap (λ (n : ℕ). (2 ^ n - 1) / 2 ^ k % 2) e ∙ ap (λ (n : ℕ). n % 2) (ones-high (suc (w - suc k)) k) ∙ odd-ones (w - suc k) in
+    let o : (2 ^ w - 1) / 2 ^ k % 2 ≡ 1 =
+    ap (λ (n : ℕ). (2 ^ n - 1) / 2 ^ k % 2) e ∙ ap (λ (n : ℕ). n % 2) (ones-high (suc (w - suc k)) k) ∙ odd-ones (w - suc k) in
     ap (λ (n : ℕ). eqb n 1) o
 
 pub ones-plane : (w N k : ℕ) → k < w → plane k (onesOf w N) ≡ replicate N true

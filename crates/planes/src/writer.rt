@@ -9,7 +9,7 @@ ghost use Rattle.planes.specs.Calls.{Advanced};
 use bits::Cursor;
 
 // Where the coder stands: in the stream, and in the plane (document 01's n).
-pub struct Coder {
+struct Coder {
     pub out: Cursor,
     pub n: usize,
 }

@@ -16,7 +16,7 @@ pub fn special(p: Params, words: &[u32]) -> bool
         return false;
     }
     if p.kind == 1 {
-        floats::any_special(words)
+        float_blocks::any_special(words)
     } else {
         false
     }

@@ -8,8 +8,9 @@ use borrow.Author.Tests.{eq-eqb, ne-eqb}
 use lib.Ieee.{Format}
 use lib.ListN.{length, getD, drop, drop-of-length-le}
 use lib.Seq.{drop-cons}
-use Rattle.floats.specs.Integer.{toInteger, toPattern}
-use Rattle.floats.specs.Block.{blockExponent, allZero, allWhole}
+use Rattle.floats.specs.Integer.{toInteger}
+use Rattle.rounding.specs.Rounded.{toPattern}
+use Rattle.float_blocks.specs.Block.{blockExponent, allZero, allWhole}
 use Rattle.codec.specs.Calls.Padded.{sameWords, multiples}
 
 -- one word more of two lists

@@ -10,8 +10,9 @@ ghost use Rattle.bits.specs.Stream.{bitsOf};
 ghost use Rattle.bits.specs.Calls.{noOnes};
 ghost use Rattle.words.specs.Calls.{Size};
 ghost use Rattle.floats.specs.Calls.{formatOf};
-ghost use Rattle.floats.specs.Integer.{toInteger, toPattern};
-ghost use Rattle.floats.specs.Block.{blockExponent, allZero, allWhole};
+ghost use Rattle.floats.specs.Integer.{toInteger};
+ghost use Rattle.rounding.specs.Rounded.{toPattern};
+ghost use Rattle.float_blocks.specs.Block.{blockExponent, allZero, allWhole};
 ghost use Rattle.codec.specs.declared.change.Change.the-variants.{ToInteger};
 ghost use Rattle.codec.specs.Calls.{Ready};
 ghost use Rattle.codec.specs.Calls.Padded.{smallest, sameWords, multiples};
@@ -64,11 +65,11 @@ pub fn multiples(size: u32, e: u32, ints: &[u64], words: &[u64]) -> bool
     requires { ⌜ Size size × (now words ≡ map (toPattern (formatOf size) e) (now ints)) ⌝ }
     ensures { λ r. ⌜ r ≡ multiples (formatOf size) e (now (ints .entry)) ⌝ }
 {
-    if floats::all_zero(words) {
+    if float_blocks::all_zero(words) {
         return false;
     }
-    let top = floats::block_exponent(size, words);
-    if floats::all_whole(size, top, words) {
+    let top = float_blocks::block_exponent(size, words);
+    if float_blocks::all_whole(size, top, words) {
         if top == e {
             same_integers(size, top, words, ints)
         } else {
@@ -85,8 +86,8 @@ pub fn others(size: u32, words: &[u64]) -> bool
     ensures { λ r. ⌜ r ≡ (not (allZero (now (words .entry)))
         && not (allWhole (formatOf size) (blockExponent (formatOf size) (now (words .entry))) (now (words .entry)))) ⌝ }
 {
-    if floats::all_zero(words) {
+    if float_blocks::all_zero(words) {
         return false;
     }
-    !floats::all_whole(size, floats::block_exponent(size, words), words)
+    !float_blocks::all_whole(size, float_blocks::block_exponent(size, words), words)
 }

@@ -30,24 +30,24 @@ get-part-requires-2 c κs = search needs
 
 returns : tie.Need-returns
 returns c =
-    let s = c .before .before .before .before .before in
+    let a = c .before .before .before .before .before .args in
     let first = c .before .before .before .least .result in
-    let e : s .args .at + first + (s .args .count - first) ≡ s .args .at + s .args .count = omega arith in
+    let e : a .at + first + (a .count - first) ≡ a .at + a .count = omega arith in
     rw (c .before .before .get-part .ensures, c .moved .ensures, c .before .get-part2 .ensures, e)
-    (number-parts (bitsOf (s .args .buf .now)) (s .args .at) first (s .args .count) (omega arith) (omega (arith, length-bitsOf (s .args .buf .now))))
+    (number-parts (bitsOf (a .buf .now)) (a .at) first (a .count) (omega arith) (omega (arith, length-bitsOf (a .buf .now))))
 
 moved-requires : tie.Need-moved-requires
 moved-requires c κs =
-    let s = c .before .before .before .before in
+    let a = c .before .before .before .before .args in
     let first = c .before .before .least .result in
-    let d = bitsOf (s .args .buf .now) in
-    (search needs, rw (c .get-part2 .ensures) (lt-of-lt-of-le (number-lt d (s .args .at + first) (s .args .count - first) (omega (arith, length-bitsOf (s .args .buf .now)))) (pow-mono {j = 8} (omega arith))))
+    let few = number-lt (bitsOf (a .buf .now)) (a .at + first) (a .count - first) (omega (arith, length-bitsOf (a .buf .now))) in
+    (search needs, rw (c .get-part2 .ensures) (lt-of-lt-of-le few (pow-mono {j = 8} (omega arith))))
 
 add-result : tie.Need-add-result
 add-result c =
-    let s = c .before .before .before .before .before in
-    let d = bitsOf (s .args .buf .now) in
-    record { fits = rw (returns c) (lt-of-lt-of-le (number-lt d (s .args .at) (s .args .count) (omega (arith, length-bitsOf (s .args .buf .now)))) (pow-mono {j = 32} (omega arith))) }
+    let a = c .before .before .before .before .before .args in
+    let few = number-lt (bitsOf (a .buf .now)) (a .at) (a .count) (omega (arith, length-bitsOf (a .buf .now))) in
+    record { fits = rw (returns c) (lt-of-lt-of-le few (pow-mono {j = 32} (omega arith))) }
 
 pub get-bits-spec : {M : Type 1} → statement M
 get-bits-spec =

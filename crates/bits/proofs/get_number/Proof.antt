@@ -36,9 +36,10 @@ get-requires c κs = search needs
 with-digit-requires : tie.Need-with-digit-requires Inv-loop μ-loop
 with-digit-requires c κs =
     let l = c .before .before .loop in
-    let s = c .before .before .before .before in
-    let bits = slice (s .args .at + l .i) (s .args .at + s .args .count) (bitsOf (s .args .buf .now)) in
-    let few : length bits ≤ 31 = omega (arith, length-slice (s .args .at + l .i) (s .args .at + s .args .count) (bitsOf (s .args .buf .now)) (omega (arith, length-bitsOf (s .args .buf .now)))) in
+    let a = c .before .before .before .before .args in
+    let d = bitsOf (a .buf .now) in
+    let bits = slice (a .at + l .i) (a .at + a .count) d in
+    let few : length bits ≤ 31 = omega (arith, length-slice (a .at + l .i) (a .at + a .count) d (omega (arith, length-bitsOf (a .buf .now)))) in
     rw (l .inv .1) (lt-of-lt-of-le (numberOf-lt bits) (pow-mono few))
 
 loop-less : tie.Need-loop-less Inv-loop μ-loop
@@ -47,9 +48,13 @@ loop-less c = search needs
 loop-again : tie.Need-loop-again Inv-loop μ-loop
 loop-again c =
     let l = c .before .before .before .loop in
-    let s = c .before .before .before .before .before in
-    let d = bitsOf (s .args .buf .now) in
-    (search needs, rw (c .with-digit .ensures, c .before .get .ensures) (number-next d (s .args .at) (l .i) (s .args .at + s .args .count) (l .n) (c .before .before .loop-test .taken) (omega arith) (omega (arith, length-bitsOf (s .args .buf .now))) (l .inv .1)))
+    let a = c .before .before .before .before .before .args in
+    let d = bitsOf (a .buf .now) in (
+      search needs,
+      rw (c .with-digit .ensures, c .before .get .ensures)
+          (number-next d (a .at) (l .i) (a .at + a .count) (l .n) (c .before .before .loop-test .taken) (omega arith)
+          (omega (arith, length-bitsOf (a .buf .now))) (l .inv .1)),
+    )
 
 returns : tie.Need-returns Inv-loop μ-loop
 returns c =

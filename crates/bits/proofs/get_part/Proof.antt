@@ -13,27 +13,27 @@ returns c =
     let s = c .before .before in
     sym (ap numberOf (slice-none (bitsOf (s .args .buf .now)) (s .args .at) (s .args .at + s .args .count) (omega arith)))
 
-shared-slice-read-wide : tie.Need-shared-slice-read-wide
-shared-slice-read-wide c = search needs
+shared-slice-read-byte-value : tie.Need-shared-slice-read-byte-value
+shared-slice-read-byte-value c = search needs
 
-wide-requires : tie.Need-wide-requires
-wide-requires c κs = search needs
+byte-value-requires : tie.Need-byte-value-requires
+byte-value-requires c κs = search needs
 
-cast-low : tie.Need-cast-low
-cast-low c = search needs
+cast-low-bits : tie.Need-cast-low-bits
+cast-low-bits c = search needs
 
-shr-low : tie.Need-shr-low
-shr-low c = search needs
+shr-low-bits : tie.Need-shr-low-bits
+shr-low-bits c = search needs
 
-low-requires : tie.Need-low-requires
-low-requires c κs = search needs
+low-bits-requires : tie.Need-low-bits-requires
+low-bits-requires c κs = search needs
 
 returns-2 : tie.Need-returns-2
 returns-2 c =
     let s = c .before .before .before .before .before in
-    rw (c .low .ensures, c .before .wide .ensures) (sym (part-number (s .args .buf .now) (s .args .at) (s .args .count) (omega arith) (s .pre .0)))
+    rw (c .low-bits .ensures, c .before .byte-value .ensures) (sym (part-number (s .args .buf .now) (s .args .at) (s .args .count) (omega arith) (s .pre .0)))
 
 pub get-part-spec : {M : Type 1} → statement M
 get-part-spec =
     tie.close
-    (tie.spec returns shared-slice-read-wide wide-requires cast-low shr-low low-requires returns-2)
+    (tie.spec returns shared-slice-read-byte-value byte-value-requires cast-low-bits shr-low-bits low-bits-requires returns-2)

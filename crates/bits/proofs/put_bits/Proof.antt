@@ -54,11 +54,13 @@ returns c =
     let second = c .before .before in
     let first = second .before .before .before .before .before in
     let small = first .before .before in
-    let s = small .before .before .before .before in
+    let a = small .before .before .before .before .args in
+    let room = small .before .least in
     record {
       bits = rw (second .put-part2 .ensures, second .before .power .ensures, first .put-part .ensures)
-          (write-two (bitsOf (s .args .buf .now)) (s .args .out .at) (s .args .limit) (s .args .v) (s .args .count) (small .before .least .result) (small .least2 .result) (small .before .least .ensures) (omega (arith, small .least2 .ensures)));
-      moved = ap (λ (n : ℕ). s .args .out .at + n) (sym (length-numberBits (s .args .count) (s .args .v)));
+          (write-two (bitsOf (a .buf .now)) (a .out .at) (a .limit) (a .v) (a .count) (room .result) (small .least2 .result) (room .ensures)
+          (omega (arith, small .least2 .ensures)));
+      moved = ap (λ (n : ℕ). a .out .at + n) (sym (length-numberBits (a .count) (a .v)));
     }
 
 returns-2 : tie.Need-returns-2

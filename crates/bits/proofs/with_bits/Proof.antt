@@ -13,37 +13,37 @@ returns : tie.Need-returns
 unfolding withBits
 returns c =
     rw (
-      c .low2 .ensures,
-      c .before .wide2 .ensures,
+      c .low-bits2 .ensures,
+      c .before .byte-value2 .ensures,
       c .before .before .moved .ensures,
-      c .before .before .before .low .ensures,
-      c .before .before .before .before .high .ensures,
-      c .before .before .before .before .before .wide .ensures,
+      c .before .before .before .low-bits .ensures,
+      c .before .before .before .before .high-bits .ensures,
+      c .before .before .before .before .before .byte-value .ensures,
     )
     refl
 
-wide-requires : tie.Need-wide-requires
-wide-requires c κs = search needs
+byte-value-requires : tie.Need-byte-value-requires
+byte-value-requires c κs = search needs
 
-add-high : tie.Need-add-high
-add-high c = search needs
+add-high-bits : tie.Need-add-high-bits
+add-high-bits c = search needs
 
-high-requires : tie.Need-high-requires
-high-requires c κs = search needs
+high-bits-requires : tie.Need-high-bits-requires
+high-bits-requires c κs = search needs
 
-low-requires : tie.Need-low-requires
-low-requires c κs = search needs
+low-bits-requires : tie.Need-low-bits-requires
+low-bits-requires c κs = search needs
 
 moved-requires : tie.Need-moved-requires
 moved-requires c κs =
     let s = c .before .before .before in
-    (search needs, rw (c .low .ensures) (lt-of-lt-of-le (mod-lt (s .args .v) (pow-pos (s .args .count))) (pow-mono {j = 8} (omega arith))))
+    (search needs, rw (c .low-bits .ensures) (lt-of-lt-of-le (mod-lt (s .args .v) (pow-pos (s .args .count))) (pow-mono {j = 8} (omega arith))))
 
-wide-requires-2 : tie.Need-wide-requires-2
-wide-requires-2 c κs = search needs
+byte-value-requires-2 : tie.Need-byte-value-requires-2
+byte-value-requires-2 c κs = search needs
 
-low-requires-2 : tie.Need-low-requires-2
-low-requires-2 c κs = search needs
+low-bits-requires-2 : tie.Need-low-bits-requires-2
+low-bits-requires-2 c κs = search needs
 
 add-result : tie.Need-add-result
 add-result c =
@@ -64,13 +64,13 @@ pub with-bits-spec : {M : Type 1} → statement M
 with-bits-spec =
     tie.close
     (tie.spec
-    wide-requires
-    add-high
-    high-requires
-    low-requires
+    byte-value-requires
+    add-high-bits
+    high-bits-requires
+    low-bits-requires
     moved-requires
-    wide-requires-2
-    low-requires-2
+    byte-value-requires-2
+    low-bits-requires-2
     add-result
     add-result-2
     cast-result

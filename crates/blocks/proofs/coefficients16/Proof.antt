@@ -5,7 +5,7 @@ use Prim.Native.Nat.{ℕ}
 use borrow.Author.Needs.{needs}
 use Rattle.words.specs.Word.{nega}
 use Rattle.blocks.specs.Coefficients.{coefficients}
-use Rattle.blocks.specs.Order.{order, reorder}
+use Rattle.order.specs.Order.{order, reorder}
 use Rattle.blocks.specs.Axes.{forward}
 use Rattle.blocks.proofs.coefficients16.Statement.{statement}
 use Rattle.blocks.proofs.coefficients16.Tie as tie

@@ -34,8 +34,12 @@ read-four-requires c κs = search needs
 
 returns : tie.Need-returns
 returns c =
-    let s = c .before .before .before .before .before in
-    rw (c .read-four .ensures, c .before .unnega4 .ensures, c .before .before .unnega3 .ensures, c .before .before .before .unnega2 .ensures, c .before .before .before .before .unnega .ensures)
+    let c₄ = c .before in
+    let c₃ = c₄ .before in
+    let c₂ = c₃ .before in
+    let c₁ = c₂ .before in
+    let s = c₁ .before in
+    rw (c .read-four .ensures, c₄ .unnega4 .ensures, c₃ .unnega3 .ensures, c₂ .unnega2 .ensures, c₁ .unnega .ensures)
     (values-line (s .args .size) (s .args .exact) (s .args .t2) (omega arith))
 
 pub values4-spec : {M : Type 1} → statement M

@@ -1,6 +1,6 @@
 -- By the guards. Assumes nothing.
 use Rattle.conversions.specs.Guarded.{integerAt}
-use Rattle.floats.proofs.RoundTrip.{integer-lt}
+use Rattle.floats.proofs.Magnitudes.{integer-lt}
 use lib.Ieee.{binary32}
 use borrow.Author.Tests.{lt-ltb, le-ltb}
 use borrow.Author.Needs.{needs}
@@ -16,14 +16,16 @@ to-integer-requires c κs = search needs
 cast-result : tie.Need-cast-result
 cast-result c =
     let field = c .before .before .before .exponent-field .ensures .0 in
-    let s = c .before .before .before .before in
-    rw (c .to-integer .ensures) (record { fits = integer-lt binary32 (s .args .e) (s .args .w) (rw (← field) (c .before .before .if1 .taken)) (rw (← field) (c .before .if2 .taken)) })
+    let a = c .before .before .before .before .args in
+    rw (c .to-integer .ensures)
+    (record { fits = integer-lt binary32 (a .e) (a .w) (rw (← field) (c .before .before .if1 .taken)) (rw (← field) (c .before .if2 .taken)) })
 
 returns : tie.Need-returns
 unfolding integerAt
 returns c =
-    let s = c .before .before .before .before in
-    rw (← (c .before .before .before .exponent-field .ensures .0), lt-ltb _ (s .args .e) (c .before .before .if1 .taken), lt-ltb _ 255 (c .before .if2 .taken)) (c .to-integer .ensures)
+    let x = c .before .before .before in
+    rw (← (x .exponent-field .ensures .0), lt-ltb _ (x .before .args .e) (c .before .before .if1 .taken), lt-ltb _ 255 (c .before .if2 .taken))
+    (c .to-integer .ensures)
 
 returns-2 : tie.Need-returns-2
 unfolding integerAt

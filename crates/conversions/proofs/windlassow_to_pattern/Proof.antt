@@ -1,6 +1,6 @@
 -- By the guard. Assumes nothing.
 use Rattle.conversions.specs.Guarded.{patternAt}
-use Rattle.floats.proofs.Signs.{pattern-lt}
+use Rattle.rounding.proofs.Signs.{pattern-lt}
 use lib.Ieee.{binary32}
 use borrow.Author.Tests.{lt-ltb, le-ltb}
 use borrow.Author.Needs.{needs}

@@ -1,6 +1,6 @@
 -- By dimension: its coefficients, then its values. Assumes nothing.
 use Rattle.blocks.proofs.Whole.{length-values}
-use Rattle.blocks.proofs.Orders.{line-in-order, square-in-order}
+use Rattle.order.proofs.Orders.{line-in-order, square-in-order}
 use Rattle.bits.specs.Stream.{bitsOf}
 use lib.ListN.{length}
 use lib.Seq.{slice}

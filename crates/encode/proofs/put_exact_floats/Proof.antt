@@ -1,7 +1,7 @@
 -- By the block's case: its first bits, then its integers. Assumes nothing.
 use Rattle.encode.proofs.Writing.{exact-zero, exact-whole, exact-raw}
 use Rattle.codec.proofs.Ready.{ready-whole}
-use Rattle.floats.specs.Block.{allZero}
+use Rattle.float_blocks.specs.Block.{allZero}
 use Rattle.floats.specs.Calls.{formatOf}
 use native.Mathlib.Omega.{arith}
 use mathlib.Core.Bool.{false}

@@ -12,13 +12,13 @@ mul-words c = search needs
 slice-read-words : tie.Need-slice-read-words
 slice-read-words c = search needs
 
-placed-requires : tie.Need-placed-requires
-placed-requires c κs = search needs
+weighted-bit-requires : tie.Need-weighted-bit-requires
+weighted-bit-requires c κs = search needs
 
 add-words : tie.Need-add-words
 add-words c =
     let s = c .before .before .before in
-    omega (arith, c .placed .ensures, digit-times (s .args .b) (2 ^ s .args .k))
+    omega (arith, c .weighted-bit .ensures, digit-times (s .args .b) (2 ^ s .args .k))
 
 mul-words-2 : tie.Need-mul-words-2
 mul-words-2 c = search needs
@@ -30,7 +30,7 @@ same-length : tie.Need-same-length
 same-length c = search needs
 
 returns : tie.Need-returns
-returns c = rw (c .placed .ensures)
+returns c = rw (c .weighted-bit .ensures)
 
 pub add-bit-spec : {M : Type 1} → statement M
 add-bit-spec =
@@ -38,7 +38,7 @@ add-bit-spec =
     (tie.spec
     mul-words
     slice-read-words
-    placed-requires
+    weighted-bit-requires
     add-words
     mul-words-2
     slice-write-words

@@ -9,8 +9,8 @@ mul-words c = search needs
 slice-read-words : tie.Need-slice-read-words
 slice-read-words c = search needs
 
-power-requires : tie.Need-power-requires
-power-requires c κs = search needs
+plane-weight-requires : tie.Need-plane-weight-requires
+plane-weight-requires c κs = search needs
 
 add-words : tie.Need-add-words
 add-words c = search needs
@@ -25,7 +25,7 @@ same-length : tie.Need-same-length
 same-length c = search needs
 
 returns : tie.Need-returns
-returns c = rw (c .power .ensures)
+returns c = rw (c .plane-weight .ensures)
 
 pub add-one-spec : {M : Type 1} → statement M
 add-one-spec =
@@ -33,7 +33,7 @@ add-one-spec =
     (tie.spec
     mul-words
     slice-read-words
-    power-requires
+    plane-weight-requires
     add-words
     mul-words-2
     slice-write-words

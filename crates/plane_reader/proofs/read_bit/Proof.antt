@@ -25,8 +25,9 @@ returns : tie.Need-returns
 returns c =
     let got = c .before .before .before .before in
     let s = got .before .before .before .before in
-    bit-here (s .args .words .now) (s .args .k) (s .args .i) (bitsOf (s .args .buf .now)) (s .args .end) (s .args .at) (got .get .result) (got .before .if1 .taken)
-    (omega (arith, length-bitsOf (s .args .buf .now), s .pre)) (got .get .ensures) (s .pre .1) (c .before .before .add-bit .ensures)
+    let a = s .args in
+    bit-here (a .words .now) (a .k) (a .i) (bitsOf (a .buf .now)) (a .end) (a .at) (got .get .result) (got .before .if1 .taken)
+    (omega (arith, length-bitsOf (a .buf .now), s .pre)) (got .get .ensures) (s .pre .1) (c .before .before .add-bit .ensures)
 
 returns-2 : tie.Need-returns-2
 returns-2 c =

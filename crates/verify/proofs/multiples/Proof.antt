@@ -1,7 +1,7 @@
 -- The questions, one after the other. Assumes nothing.
 use Rattle.verify.proofs.Steps.{multiples-zero, multiples-not, multiples-other, multiples-same}
 use Rattle.codec.proofs.Ready.{ready-whole}
-use Rattle.floats.specs.Block.{allZero}
+use Rattle.float_blocks.specs.Block.{allZero}
 use Rattle.floats.specs.Calls.{formatOf}
 use lib.ListN.{length, length-map}
 use mathlib.Core.Bool.{false}

@@ -1,5 +1,5 @@
 -- The two questions. Assumes nothing.
-use Rattle.floats.specs.Block.{allZero}
+use Rattle.float_blocks.specs.Block.{allZero}
 use mathlib.Core.Bool.{false}
 use mathlib.Core.Path.{_≡_, sym, _∙_}
 use borrow.Author.Needs.{needs}

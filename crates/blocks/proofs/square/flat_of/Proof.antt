@@ -5,7 +5,7 @@ use Prim.Native.Nat.{_≤_, _-_, _/_, _%_}
 use native.Mathlib.Omega.{arith}
 use borrow.Author.Needs.{needs}
 use lib.ListN.{length, getD, length-set}
-use Rattle.blocks.proofs.Filling.{Filled, fill-more, tabulated}
+use Rattle.order.proofs.Filling.{Filled, fill-more, tabulated}
 use Rattle.blocks.proofs.square.flat_of.Statement.{statement}
 use Rattle.blocks.proofs.square.flat_of.Tie as tie
 

@@ -2,7 +2,7 @@
 use mathlib.Core.Path.{_≡_, ap, _∙_}
 use native.Mathlib.Omega.{arith}
 use borrow.Author.Needs.{needs}
-use Rattle.blocks.specs.Four.{reading}
+use Rattle.transforms.specs.Four.{reading}
 use Rattle.blocks.specs.Calls.{flat, eachRow, transposed}
 use Rattle.blocks.proofs.Squares.{rows-along, columns-along}
 use Rattle.blocks.proofs.square.read_along.Statement.{statement}

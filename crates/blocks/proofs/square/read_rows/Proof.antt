@@ -28,7 +28,11 @@ read-four-requires-4 : tie.Need-read-four-requires-4
 read-four-requires-4 c κs = search needs
 
 returns : tie.Need-returns
-returns c = rw (c .read-four4 .ensures, c .before .before .read-four3 .ensures, c .before .before .before .before .read-four2 .ensures, c .before .before .before .before .before .before .read-four .ensures)
+returns c =
+    let c₃ = c .before .before in
+    let c₂ = c₃ .before .before in
+    let c₁ = c₂ .before .before in
+    rw (c .read-four4 .ensures, c₃ .read-four3 .ensures, c₂ .read-four2 .ensures, c₁ .read-four .ensures)
 
 pub read-rows-spec : {M : Type 1} → statement M
 read-rows-spec =

@@ -1,6 +1,6 @@
 -- `blocks::square::square_of` meets its contract: a list of sixteen is its elements.
 use borrow.Author.Needs.{needs}
-use Rattle.blocks.proofs.Lists.{tabulate-getD}
+use Rattle.order.proofs.Lists.{tabulate-getD}
 use Rattle.blocks.proofs.square.square_of.Statement.{statement}
 use Rattle.blocks.proofs.square.square_of.Tie as tie
 

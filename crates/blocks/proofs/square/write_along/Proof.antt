@@ -2,7 +2,7 @@
 use mathlib.Core.Path.{_≡_, ap, _∙_}
 use native.Mathlib.Omega.{arith}
 use borrow.Author.Needs.{needs}
-use Rattle.blocks.specs.Four.{writing}
+use Rattle.transforms.specs.Four.{writing}
 use Rattle.blocks.specs.Calls.{flat, eachRow, transposed}
 use Rattle.blocks.proofs.Squares.{rows-along, columns-along}
 use Rattle.blocks.proofs.square.write_along.Statement.{statement}

@@ -28,7 +28,11 @@ write-four-requires-4 : tie.Need-write-four-requires-4
 write-four-requires-4 c κs = search needs
 
 returns : tie.Need-returns
-returns c = rw (c .write-four4 .ensures, c .before .before .write-four3 .ensures, c .before .before .before .before .write-four2 .ensures, c .before .before .before .before .before .before .write-four .ensures)
+returns c =
+    let c₃ = c .before .before in
+    let c₂ = c₃ .before .before in
+    let c₁ = c₂ .before .before in
+    rw (c .write-four4 .ensures, c₃ .write-four3 .ensures, c₂ .write-four2 .ensures, c₁ .write-four .ensures)
 
 pub write-rows-spec : {M : Type 1} → statement M
 write-rows-spec =

@@ -1,0 +1,3 @@
+-- The laws of ranges of bits.
+pub mod CopyLaws
+pub mod ZerosStored

@@ -1,0 +1,3 @@
+-- The definitions that the contracts of `order` cite.
+pub mod Lists
+pub mod Order

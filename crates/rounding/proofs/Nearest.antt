@@ -1,0 +1,80 @@
+-- `closest`, by the three tests of the code.
+use mathlib.Core.Path.{_≡_, refl, sym, ap, _∙_, subst}
+use Prim.Native.Nat.{ℕ, _+_, _-_, _*_, _/_, _%_, _^_, _≤_, _<_, compare, Ordering, Ordering·lt, Ordering·eq, Ordering·gt}
+use native.Mathlib.Numerals.{add-one}
+use native.Mathlib.Nat.{le-trans, le-div-iff-mul-le, mul-le-mul-left, div-mul-le-self, mul-one}
+use native.Mathlib.Omega.{arith}
+use mathlib.Core.Bool.{not}
+use lib.Dec.{T, isLe, isEq, eqb, leb→le, nleb→lt, eqb→eq, eqb-refl}
+use lib.Arith.{lt-of-le-ne}
+use lib.Pow.{pow-pos}
+use lib.Ieee.Nearest.{closest, closest-same}
+use Rattle.floats.proofs.Formats.{mul-pow}
+
+abbrev Cmp : Ordering → ℕ → ℕ → Type 0
+Cmp Ordering·lt a b = a < b
+Cmp Ordering·eq a b = a ≡ b
+Cmp Ordering·gt a b = b < a
+
+cmp : (a b : ℕ) → Cmp (compare a b) a b
+cmp a b = go (compare a b) (leb→le a b) (nleb→lt a b) (eqb→eq a b) (λ (e : a ≡ b). subst (λ (x : ℕ). T (eqb a x)) e (eqb-refl a))
+  where
+    go : (o : Ordering) → (T (isLe o) → a ≤ b) → (T (not (isLe o)) → b < a) → (T (isEq o) → a ≡ b) → (a ≡ b → T (isEq o)) → Cmp o a b
+    go Ordering·lt h k e n = lt-of-le-ne (h tt) n
+    go Ordering·eq h k e n = e tt
+    go Ordering·gt h k e n = k tt
+
+is-lt : (a b : ℕ) → a < b → compare a b ≡ Ordering·lt
+is-lt a b h = go (compare a b) (cmp a b)
+  where
+    go : (o : Ordering) → Cmp o a b → o ≡ Ordering·lt
+    go Ordering·lt c = refl
+    go Ordering·eq c = absurd (omega arith)
+    go Ordering·gt c = absurd (omega arith)
+
+is-eq : (a b : ℕ) → a ≡ b → compare a b ≡ Ordering·eq
+is-eq a b h = go (compare a b) (cmp a b)
+  where
+    go : (o : Ordering) → Cmp o a b → o ≡ Ordering·eq
+    go Ordering·lt c = absurd (omega arith)
+    go Ordering·eq c = refl
+    go Ordering·gt c = absurd (omega arith)
+
+is-gt : (a b : ℕ) → b < a → compare a b ≡ Ordering·gt
+is-gt a b h = go (compare a b) (cmp a b)
+  where
+    go : (o : Ordering) → Cmp o a b → o ≡ Ordering·gt
+    go Ordering·lt c = absurd (omega arith)
+    go Ordering·eq c = absurd (omega arith)
+    go Ordering·gt c = refl
+
+module _ (a b : ℕ) where
+  pub down : a % b * 2 < b → a / b ≡ closest a b
+  down h = rw (is-lt (a % b * 2) b h)
+
+  pub tie-even : a % b * 2 ≡ b → a / b + a / b % 2 ≡ closest a b
+  tie-even h = rw (is-eq (a % b * 2) b h)
+
+  pub up : b < a % b * 2 → a / b + 1 ≡ closest a b
+  up h = rw (is-gt (a % b * 2) b h) (add-one (a / b))
+
+-- a quotient by 2 or more
+pub at-most-half : (a b : ℕ) → 2 ≤ b → a / b ≤ a / 2
+at-most-half a b h = le-div-iff-mul-le {k = 2} {x = a / b} {y = a} (omega arith) .1 (le-trans (mul-le-mul-left (a / b) h) (div-mul-le-self a b))
+
+-- by 1
+pub by-one : (a : ℕ) → closest a 1 ≡ a
+by-one a = sym (down a 1 (omega arith)) ∙ omega arith
+
+module _ (g p l : ℕ) where
+  -- l digits held to p of them: no digit is lost, or some are
+  pub held-left : l ≤ p → closest (g * 2 ^ p) (2 ^ l) ≡ g * 2 ^ (p - l)
+  held-left h =
+      closest-same (g * 2 ^ p) (2 ^ l) (g * 2 ^ (p - l)) 1 (pow-pos l) (omega arith)
+      (mul-one (g * 2 ^ p) ∙ sym (mul-pow g (p - l) l ∙ ap (λ (x : ℕ). g * 2 ^ x) (omega arith)))
+      ∙ by-one (g * 2 ^ (p - l))
+
+  pub held-right : p < l → closest g (2 ^ (l - p)) ≡ closest (g * 2 ^ p) (2 ^ l)
+  held-right h =
+      closest-same g (2 ^ (l - p)) (g * 2 ^ p) (2 ^ l) (pow-pos (l - p)) (pow-pos l)
+      (sym (mul-pow g p (l - p) ∙ ap (λ (x : ℕ). g * 2 ^ x) (omega arith)))

@@ -1,0 +1,69 @@
+// Integers back to binary32 and binary64 patterns, in u64, by their size: one rounding to nearest, ties to even; by integer operations alone.
+ghost use mathlib.Core.Path.{_≡_};
+ghost use mathlib.Core.Bool.{false};
+ghost use Prim.Native.Nat.{_*_, _^_, _≤_, _<_};
+ghost use lib.Ieee.{hid, ones, prec};
+ghost use lib.Ieee.Nearest.{closest};
+ghost use Rattle.words.specs.Calls.{Size};
+ghost use Rattle.floats.specs.Calls.{formatOf};
+ghost use Rattle.rounding.specs.Rounded.{scaled, toPattern};
+
+// a / b to the nearest whole number, a tie to the even one.
+fn half_even(a: u64, b: u64) -> u64
+    requires { ⌜ (0 < b) × (b ≤ 2 ^ 63) ⌝ }
+    ensures { λ r. ⌜ r ≡ closest a b ⌝ }
+{
+    let q = a / b;
+    let r = a % b;
+    if r * 2 < b {
+        return q;
+    }
+    if r * 2 == b {
+        return q + q % 2;
+    }
+    q + 1
+}
+
+// The digits of a number of l digits, held to the precision: g times 2^(precision - l), rounded once.
+fn kept(size: u32, g: u64, l: u32) -> u64
+    requires { ⌜ Size size × (g < 2 ^ l) × (l ≤ 64) ⌝ }
+    ensures { λ r. ⌜ r ≡ closest (g * 2 ^ prec (formatOf size)) (2 ^ l) ⌝ }
+{
+    let p = floats::fraction_bits(size) + 1;
+    if l <= p {
+        g << (p - l)
+    } else {
+        half_even(g, 1u64 << (l - p))
+    }
+}
+
+// The magnitude g times 2^(e - 157), or 2^(e - 1085) at 64 bits, rounded once: its pattern. The largest is the infinity's.
+fn scaled(size: u32, g: u64, e: u32) -> u64
+    requires { ⌜ Size size × (e ≤ ones (formatOf size)) × (g < 2 ^ size) ⌝ }
+    ensures { λ r. ⌜ (r ≡ scaled (formatOf size) false g e) × (r ≤ ones (formatOf size) * hid (formatOf size)) ⌝ }
+{
+    if g == 0 {
+        return 0;
+    }
+    let l = 64 - u64::leading_zeros(g);
+    if l + e <= size {
+        return half_even(g << e, 1u64 << floats::field_bits(size));
+    }
+    let k = floats::fraction_bits(size);
+    let b = (((l + e - size) as u64) << k) + kept(size, g, l);
+    let most = (floats::last_field(size) as u64) << k;
+    if b < most { b } else { most }
+}
+
+// The two's complement word i times 2^(e - 157), or 2^(e - 1085) at 64 bits, rounded once: its pattern.
+pub fn to_pattern(size: u32, e: u32, i: u64) -> u64
+    requires { ⌜ Size size × (e ≤ ones (formatOf size)) ⌝ }
+    ensures { λ r. ⌜ r ≡ toPattern (formatOf size) e i ⌝ }
+{
+    let top = floats::sign_bit(size);
+    if i < top {
+        scaled(size, i, e)
+    } else {
+        top + scaled(size, words::minus(size, 0, i), e)
+    }
+}

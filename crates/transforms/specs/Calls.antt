@@ -1,0 +1,9 @@
+-- What the contracts of `transforms` need beside document 01's definitions.
+use mathlib.Core.List.{List}
+use Prim.Native.Nat.{ℕ}
+use lib.ListN.{getD}
+use Rattle.transforms.specs.Four.{Transform}
+
+-- t of four values in a list
+abbrev pub onFour : Transform → List ℕ → List ℕ
+onFour t q = t (getD q 0 0) (getD q 1 0) (getD q 2 0) (getD q 3 0)

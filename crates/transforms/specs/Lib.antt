@@ -1,0 +1,3 @@
+-- The definitions that the contracts of `transforms` cite.
+pub mod Four
+pub mod Calls
