@@ -2,7 +2,7 @@
 use mathlib.Core.Path.{_≡_, sym, ap, ap₂, _∙_}
 use mathlib.Core.Bool.{false}
 use Prim.Native.Nat.{ℕ, zero-le, _+_, _-_, _*_, _%_, _^_, _≤_, _<_, min}
-use native.Mathlib.Nat.{min-eq-left, min-eq-right}
+use native.Mathlib.Nat.{min-eq-left, min-eq-right, le-of-eq, lt-of-le-of-lt}
 use native.Mathlib.Omega.{arith}
 use lib.Count.{leading-le}
 use lib.Ieee.{hid, ones, prec}
@@ -113,7 +113,7 @@ whole c =
     )
 
 add-b-2 : tie.Need-add-b-2
-add-b-2 c = let w = whole c in record { fits = rw (w .0) (w .1) }
+add-b-2 c = let w = whole c in record { fits = lt-of-le-of-lt (le-of-eq (w .0)) (w .1) }
 
 last-field-requires : tie.Need-last-field-requires
 last-field-requires c κs = search needs
