@@ -4,6 +4,7 @@ use mathlib.Core.Bool.{true, false}
 use mathlib.Core.List.{List}
 use Prim.Native.Nat.{ℕ, _+_, _*_, _≤_}
 use native.Mathlib.Omega.{arith}
+use borrow.Author.Tests.{eq-eqb}
 use lib.Ieee.{binary32}
 use lib.ListN.{length}
 use Rattle.planes.proofs.Bound.{bound}
@@ -14,10 +15,13 @@ use Rattle.codec.proofs.Longest.{longest, longest-code, longest-words}
 use Rattle.params.specs.declared.Params.{Params}
 use Rattle.params.specs.Dimension.{Dimension}
 use Rattle.params.specs.Width.{float, exact, wordCount, widthOf}
+use Rattle.params.specs.Rows.{first, parameterRows}
 use Rattle.slot_code.specs.Rules.{IsBlock, codeOf}
 use Rattle.slot_code.proofs.Exact.{in-order, exact-bound}
 use Rattle.slots.specs.Outcome.{bitOutcome, storeOutcome}
-use Rattle.claims.specs.Demand3.{RefusesAsTooLong, PlanesBound, TakesIntegers, TakesFloats, StoreCount, BitCount, Demand3}
+use Rattle.claims.specs.Demand3.{RefusesAsTooLong, PlanesBound, TakesIntegers, TakesFloats, StoreCount, BitCount, ListedCount, Demand3}
+use Rattle.lines.specs.Line.{blockWords}
+use Rattle.lines.proofs.CountLaws.{code-fits, count-repeated}
 use Rattle.claims.proofs.Stored.{takes-fitting, refuses-longer}
 
 planes-bound : PlanesBound
@@ -61,5 +65,8 @@ bit-count : BitCount
 unfolding bitOutcome
 bit-count p ws h = rw h
 
+listed-count : ListedCount
+listed-count p l z f h = let g = eq-eqb (first (parameterRows p)) 0 z in (count-repeated p g l f h, code-fits p g (blockWords (wordCount p) (l .bytes)))
+
 pub demand3 : Demand3
-demand3 = (planes-bound, tight, takes-integers, takes-floats, (λ d good. (block d good, is-block d good, refuses d good)), store-count, bit-count)
+demand3 = (planes-bound, tight, takes-integers, takes-floats, (λ d good. (block d good, is-block d good, refuses d good)), store-count, bit-count, listed-count)

@@ -1,9 +1,11 @@
 -- Demand 3: how many bits a code takes, which slots take which blocks, and that every count reported is the length of the defined code.
 use mathlib.Core.Path.{_≡_}
-use mathlib.Core.Bool.{true, false}
+use mathlib.Core.Bool.{true, false, _||_}
 use mathlib.Core.List.{List}
-use Prim.Native.Nat.{ℕ, _+_, _-_, _*_, _^_, _≤_}
+use Prim.Native.Nat.{ℕ, _+_, _-_, _*_, _^_, _≤_, _<_}
+use lib.Dec.{eqb}
 use lib.ListN.{length}
+use lib.Seq.{slice}
 use Rattle.bits.specs.Stream.{bitsOf, write}
 use Rattle.words.specs.Word.{AllBelow}
 use Rattle.planes.specs.Coder.{planesCode}
@@ -11,9 +13,11 @@ use Rattle.codec.specs.Code.{padded}
 use Rattle.params.specs.declared.Params.{Params}
 use Rattle.params.specs.Dimension.{Dimension}
 use Rattle.params.specs.Width.{float, exact, wordCount, widthOf}
-use Rattle.params.specs.Rows.{first, placeRows}
+use Rattle.params.specs.Rows.{first, parameterRows, placeRows}
 use Rattle.slot_code.specs.Rules.{IsBlock, codeOf, row9}
 use Rattle.slots.specs.Outcome.{bitOutcome, storeOutcome, slotIn}
+use Rattle.hex.specs.Digits.{hexValue}
+use Rattle.lines.specs.Line.{Line, wellFormed, blockDigits, blockWords, lineStore, blockLine}
 
 -- "whenever no row before 10 applies", a store of the block into slot k of the archive ..
 abbrev pub Storable : Params → List ℕ → ℕ → List ℕ → Type 0
@@ -76,5 +80,14 @@ abbrev pub BitCount : Type 0
 BitCount =
     (p : Params) (ws : List ℕ) → bitOutcome p ws .answer ≡ 0 → bitOutcome p ws .count ≡ length (codeOf p ws)
 
+-- "the listing repeats its store's": where the store of a well-formed block line is done or answers 10, the four digits after the answer's two are the
+-- length of the defined code, which they have room for
+abbrev pub ListedCount : Type 0
+ListedCount =
+    (p : Params) (l : Line) → first (parameterRows p) ≡ 0 → wellFormed (blockDigits p) l ≡ true
+    → (eqb (lineStore p (blockWords (wordCount p) (l .bytes)) .answer) 0 || eqb (lineStore p (blockWords (wordCount p) (l .bytes)) .answer) 10) ≡ true
+    → (hexValue (slice 2 6 (blockLine p l)) ≡ length (codeOf p (blockWords (wordCount p) (l .bytes))))
+    × (length (codeOf p (blockWords (wordCount p) (l .bytes))) < 16 ^ 4)
+
 abbrev pub Demand3 : Type 0
-Demand3 = PlanesBound × PlanesBoundMet × TakesIntegers × TakesFloats × RefusesSome × StoreCount × BitCount
+Demand3 = PlanesBound × PlanesBoundMet × TakesIntegers × TakesFloats × RefusesSome × StoreCount × BitCount × ListedCount
