@@ -1,6 +1,6 @@
 // The two float conversions, exported so that a host program can hold them against its hardware's arithmetic.
 ghost use mathlib.Core.Path.{_≡_};
-ghost use Rattle.conversions.specs.Guarded.{patternAt, integerAt};
+ghost use Rattle.conversions.specs.Calls.{patternAt, integerAt};
 
 #[no_mangle]
 pub extern "C" fn windlassow_to_pattern(e: u32, i: u32) -> u32

@@ -85,7 +85,7 @@ fn write_odd(f: &mut [u64], d: &mut [u64], p: Place, v: u64, out: &mut [u8], at:
 {
     let a = encode(f, d, p, v);
     let b = CodedDouble {
-        half: 6,
+        nibble: 6,
         xor: 0,
         place: p,
     };

@@ -21,24 +21,24 @@ use Rattle.fpc_stream.proofs.CodeLaws.{half-code}
 
 -- the two halves' byte, then the bytes that remain of both xors
 pub put-pair-is : (out : List ℕ) (at : ℕ) (a b : CodedDouble) (m n : ℕ) (o₁ o₂ o₃ : List ℕ)
-    → m ≡ remainingCount (a .half % 8) → n ≡ remainingCount (b .half % 8)
-    → o₁ ≡ set out at (16 * a .half + b .half) → o₂ ≡ sets o₁ (at + 1) (lowBytes m (a .xor)) → o₃ ≡ sets o₂ (at + 1 + m) (lowBytes n (b .xor))
+    → m ≡ remainingCount (a .nibble % 8) → n ≡ remainingCount (b .nibble % 8)
+    → o₁ ≡ set out at (16 * a .nibble + b .nibble) → o₂ ≡ sets o₁ (at + 1) (lowBytes m (a .xor)) → o₃ ≡ sets o₂ (at + 1 + m) (lowBytes n (b .xor))
     → Appended out at (pairOf a b) (at + 1 + m + n) o₃
 put-pair-is out at a b m n o₁ o₂ o₃ em en e₁ e₂ e₃ =
-    let x = lowBytes (remainingCount (a .half % 8)) (a .xor) in
-    let y = lowBytes (remainingCount (b .half % 8)) (b .xor) in
+    let x = lowBytes (remainingCount (a .nibble % 8)) (a .xor) in
+    let y = lowBytes (remainingCount (b .nibble % 8)) (b .xor) in
     let lx : length x ≡ m = length-low _ _ ∙ sym em in
     let ly : length y ≡ n = length-low _ _ ∙ sym en in
     let p : at + 1 + m ≡ suc at + length x = omega arith in
     let q : at + 1 ≡ suc at = add-one at in
     record {
       moved = omega (arith, length-append x y);
-      put = rw (e₃, e₂, e₁, p, q, em, en) (sym (sets-append (set out at (16 * a .half + b .half)) (suc at) x y));
+      put = rw (e₃, e₂, e₁, p, q, em, en) (sym (sets-append (set out at (16 * a .nibble + b .nibble)) (suc at) x y));
     }
 
 -- what remains of a double's xor
 rest-is : (size : ℕ) (s : Predictors) (v : ℕ) (a : CodedDouble) (s′ : Predictors) → Encoded size s v a s′
-    → lowBytes (remainingCount (a .half % 8)) (a .xor) ≡ remainingAfter s v
+    → lowBytes (remainingCount (a .nibble % 8)) (a .xor) ≡ remainingAfter s v
 unfolding remaining
 rest-is size s v a s′ e = rw (e .half-is, e .xor-is, half-code (fcm s) (dfcm s) v)
 
@@ -49,7 +49,7 @@ module _ (size : ℕ) (s : Predictors) (v : ℕ) (a : CodedDouble) (s₁ : Predi
   pair-is w b s₂ eb = rw (rest-is size s v a s₁ ea, rest-is size s₁ w b s₂ eb, ea .half-is, eb .half-is, ea .next)
 
   -- the double v and the odd end
-  pub odd-is : (p : Place) → pairOf a (record { half = oddHalf; xor = 0; place = p }) ≡ oddBytes s v
+  pub odd-is : (p : Place) → pairOf a (record { nibble = oddHalf; xor = 0; place = p }) ≡ oddBytes s v
   unfolding oddBytes
   odd-is p = rw (rest-is size s v a s₁ ea, ea .half-is)
 

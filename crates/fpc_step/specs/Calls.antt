@@ -30,13 +30,13 @@ predicted s = record { fcm = fcm s; dfcm = dfcm s }
 
 -- the half byte and the xor of the double v after the predictors s, and the predictors after v
 pub record Encoded (size : ℕ) (s : Predictors) (v : ℕ) (r : CodedDouble) (s′ : Predictors) : Type 0 where
-  pub half-is : r .half ≡ halfAfter s v
+  pub half-is : r .nibble ≡ halfAfter s v
   pub xor-is : r .xor ≡ residual (fcm s) (dfcm s) v
   pub next : s′ ≡ update size s v
 
 -- the bytes of two doubles as they are written: the halves in one byte, then what remains of both xors
 abbrev pub pairOf : CodedDouble → CodedDouble → List ℕ
-pairOf a b = (16 * a .half + b .half) ∷ (lowBytes (remainingCount (a .half % 8)) (a .xor) ++ lowBytes (remainingCount (b .half % 8)) (b .xor))
+pairOf a b = (16 * a .nibble + b .nibble) ∷ (lowBytes (remainingCount (a .nibble % 8)) (a .xor) ++ lowBytes (remainingCount (b .nibble % 8)) (b .xor))
 
 -- the output after numbers were written from a place on, and the next place; what does not fit is left out, and the place moves on all the same
 pub record Appended (out : List ℕ) (at : ℕ) (numbers : List ℕ) (next : ℕ) (out′ : List ℕ) : Type 0 where
@@ -45,4 +45,4 @@ pub record Appended (out : List ℕ) (at : ℕ) (numbers : List ℕ) (next : ℕ
 
 -- the answer of a step, where the bytes are those from place `at` on: the double and the next place, or none
 abbrev pub stepAnswer : Predictors → ℕ → List ℕ → ℕ → Answer Found
-stepAnswer s half bytes at = answered (Option·map (λ x. record { double = x .double; next = at + x .next }) (stepOf (fcm s) (dfcm s) half bytes))
+stepAnswer s nibble bytes at = answered (Option·map (λ x. record { double = x .double; next = at + x .next }) (stepOf (fcm s) (dfcm s) nibble bytes))

@@ -26,7 +26,7 @@ pub struct Place {
 
 // A double as it is written, and the place after it.
 pub struct CodedDouble {
-    pub half: u32,
+    pub nibble: u32,
     pub xor: u64,
     pub place: Place,
 }
@@ -71,7 +71,7 @@ pub fn encode(f: &mut [u64], d: &mut [u64], p: Place, v: u64) -> CodedDouble
     let a = predict(f, d, p);
     let q = advance(f, d, p, v);
     CodedDouble {
-        half: half_of(a, v),
+        nibble: half_of(a, v),
         xor: residual_of(a, v),
         place: q,
     }
@@ -79,29 +79,29 @@ pub fn encode(f: &mut [u64], d: &mut [u64], p: Place, v: u64) -> CodedDouble
 
 // Two doubles as they are written, in one pair from place `at` on; the next place.
 pub fn put_pair(out: &mut [u8], at: usize, a: CodedDouble, b: CodedDouble) -> usize
-    requires { ⌜ (at ≤ 2 ^ 20) × (a .half < 16) × (b .half < 16) ⌝ }
+    requires { ⌜ (at ≤ 2 ^ 20) × (a .nibble < 16) × (b .nibble < 16) ⌝ }
     ensures { λ r. ⌜ Appended (now (out .entry)) at (pairOf a b) r (now (out .exit)) ⌝ }
 {
-    let m = remaining_count(a.half % 8);
-    let n = remaining_count(b.half % 8);
-    put(out, at, (16 * a.half + b.half) as u8);
+    let m = remaining_count(a.nibble % 8);
+    let n = remaining_count(b.nibble % 8);
+    put(out, at, (16 * a.nibble + b.nibble) as u8);
     put_bytes(out, at + 1, a.xor, m);
     put_bytes(out, at + 1 + m, b.xor, n);
     at + 1 + m + n
 }
 
 // One step of reading: the double of a half byte and of the bytes from place `at` on, if the rules code it so, and the next place.
-pub fn read_step(f: &[u64], d: &[u64], p: Place, stream: &[u8], at: usize, half: u32) -> Step
-    requires { ⌜ Within (now f) (now d) p × (at ≤ length (now stream)) × (half < 16) ⌝ }
-    ensures { λ r. ⌜ answerOf r ≡ stepAnswer (predictors (now (f .entry)) (now (d .entry)) p) half (drop at (now (stream .entry))) at ⌝ }
+pub fn read_step(f: &[u64], d: &[u64], p: Place, stream: &[u8], at: usize, nibble: u32) -> Step
+    requires { ⌜ Within (now f) (now d) p × (at ≤ length (now stream)) × (nibble < 16) ⌝ }
+    ensures { λ r. ⌜ answerOf r ≡ stepAnswer (predictors (now (f .entry)) (now (d .entry)) p) nibble (drop at (now (stream .entry))) at ⌝ }
 {
     let a = predict(f, d, p);
-    let n = remaining_count(half % 8);
+    let n = remaining_count(nibble % 8);
     if stream.len() - at < n {
         return Step::Bad;
     }
-    let v = word(stream, at, n) ^ chosen(a, half / 8);
-    if half_of(a, v) == half {
+    let v = word(stream, at, n) ^ chosen(a, nibble / 8);
+    if half_of(a, v) == nibble {
         Step::Double(v, at + n)
     } else {
         Step::Bad
@@ -109,11 +109,11 @@ pub fn read_step(f: &[u64], d: &[u64], p: Place, stream: &[u8], at: usize, half:
 }
 
 // Whether the odd end, half byte 6 and a last byte 00, stands at place `at`.
-pub fn odd_end(stream: &[u8], at: usize, half: u32) -> bool
+pub fn odd_end(stream: &[u8], at: usize, nibble: u32) -> bool
     requires { ⌜ at ≤ length (now stream) ⌝ }
-    ensures { λ r. ⌜ r ≡ oddEnd half (drop at (now (stream .entry))) ⌝ }
+    ensures { λ r. ⌜ r ≡ oddEnd nibble (drop at (now (stream .entry))) ⌝ }
 {
-    if half != 6 {
+    if nibble != 6 {
         return false;
     }
     if stream.len() - at != 1 {

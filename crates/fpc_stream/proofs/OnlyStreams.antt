@@ -36,10 +36,10 @@ chained none more y e = absurd (let z : _≡_ {A = ℕ} 0 1 = cc in omega arith)
 chained (some x) more y e = record { x = x; found = refl; then = e }
 
 -- the odd end is half byte 6 and one byte, 00
-odd-back : (half : ℕ) (bytes : List ℕ) → oddEnd half bytes ≡ true → (half ≡ oddHalf) × (bytes ≡ oddByte ∷ [])
-odd-back half bytes e =
-    let p = and-eq-true-iff (eqb half oddHalf && eqb (length bytes) 1) (eqb (getD bytes 0 0) oddByte) .0 e in
-    let q = and-eq-true-iff (eqb half oddHalf) (eqb (length bytes) 1) .0 (p .0) in
+odd-back : (nibble : ℕ) (bytes : List ℕ) → oddEnd nibble bytes ≡ true → (nibble ≡ oddHalf) × (bytes ≡ oddByte ∷ [])
+odd-back nibble bytes e =
+    let p = and-eq-true-iff (eqb nibble oddHalf && eqb (length bytes) 1) (eqb (getD bytes 0 0) oddByte) .0 e in
+    let q = and-eq-true-iff (eqb nibble oddHalf) (eqb (length bytes) 1) .0 (p .0) in
     (eqb-true _ _ (q .0), single bytes (eqb-true _ _ (q .1)) (eqb-true _ _ (p .1)))
   where
     single : (l : List ℕ) → length l ≡ 1 → getD l 0 0 ≡ 0 → l ≡ oddByte ∷ []

@@ -48,61 +48,61 @@ module _ (f d v : ℕ) (tail : List ℕ) (hf : f < 2 ^ 64) (hd : d < 2 ^ 64) (hv
   step-rest = drop-at (remaining f d v) tail _ refl
 
 -- the tests that a step passed which found a double
-pub record Accepted (f d half : ℕ) (bytes : List ℕ) (x : Found) : Type 0 where
-  pub fits : remainingCount (half % 8) ≤ length bytes
-  pub same : halfByte f d (decoded f d half bytes) ≡ half
-  pub found : record { double = decoded f d half bytes; next = remainingCount (half % 8) } ≡ x
+pub record Accepted (f d nibble : ℕ) (bytes : List ℕ) (x : Found) : Type 0 where
+  pub fits : remainingCount (nibble % 8) ≤ length bytes
+  pub same : halfByte f d (decoded f d nibble bytes) ≡ nibble
+  pub found : record { double = decoded f d nibble bytes; next = remainingCount (nibble % 8) } ≡ x
 
-pub accepted : (f d half : ℕ) (bytes : List ℕ) (x : Found) → stepOf f d half bytes ≡ some x → Accepted f d half bytes x
+pub accepted : (f d nibble : ℕ) (bytes : List ℕ) (x : Found) → stepOf f d nibble bytes ≡ some x → Accepted f d nibble bytes x
 unfolding stepOf coded
-accepted f d half bytes x e = go (coded f d half bytes) refl e
+accepted f d nibble bytes x e = go (coded f d nibble bytes) refl e
   where
-    go : (b : Bool) → coded f d half bytes ≡ b → cond b (some (record { double = decoded f d half bytes; next = remainingCount (half % 8) })) none ≡ some x
-        → Accepted f d half bytes x
+    go : (b : Bool) → coded f d nibble bytes ≡ b → cond b (some (record { double = decoded f d nibble bytes; next = remainingCount (nibble % 8) })) none ≡ some x
+        → Accepted f d nibble bytes x
     go true p q =
-        let t = and-eq-true-iff (leb (remainingCount (half % 8)) (length bytes)) (eqb (halfByte f d (decoded f d half bytes)) half) .0 p in
+        let t = and-eq-true-iff (leb (remainingCount (nibble % 8)) (length bytes)) (eqb (halfByte f d (decoded f d nibble bytes)) nibble) .0 p in
         record { fits = leb-true _ _ (t .0); same = eqb-true _ _ (t .1); found = cc }
     go false p q = absurd (let z : _≡_ {A = ℕ} 0 1 = cc in omega arith)
 
 -- what a step that finds a double says of the bytes
-pub record Read (f d half : ℕ) (bytes : List ℕ) (x : Found) : Type 0 where
-  pub same-half : half ≡ halfByte f d (x .double)
+pub record Read (f d nibble : ℕ) (bytes : List ℕ) (x : Found) : Type 0 where
+  pub same-half : nibble ≡ halfByte f d (x .double)
   pub same-bytes : bytes ≡ remaining f d (x .double) ++ drop (x .next) bytes
   pub double : x .double < 2 ^ 64
   pub inside : x .next ≤ length bytes
 
-module _ (f d half : ℕ) (bytes : List ℕ) (hf : f < 2 ^ 64) (hd : d < 2 ^ 64) (hb : AllBelow 256 bytes) where
-  module _ (fit : remainingCount (half % 8) ≤ length bytes) (same : halfByte f d (decoded f d half bytes) ≡ half) where
-    residual-is : residual f d (decoded f d half bytes) ≡ fromBytes (take (remainingCount (half % 8)) bytes)
+module _ (f d nibble : ℕ) (bytes : List ℕ) (hf : f < 2 ^ 64) (hd : d < 2 ^ 64) (hb : AllBelow 256 bytes) where
+  module _ (fit : remainingCount (nibble % 8) ≤ length bytes) (same : halfByte f d (decoded f d nibble bytes) ≡ nibble) where
+    residual-is : residual f d (decoded f d nibble bytes) ≡ fromBytes (take (remainingCount (nibble % 8)) bytes)
     unfolding residual decoded
     residual-is =
-        let p : side f d (decoded f d half bytes) ≡ half / 8 = sym (half-side f d (decoded f d half bytes)) ∙ ap (λ (x : ℕ). x / 8) same in
-        rw p (xor-back (fromBytes (take (remainingCount (half % 8)) bytes)) (prediction f d (half / 8)))
+        let p : side f d (decoded f d nibble bytes) ≡ nibble / 8 = sym (half-side f d (decoded f d nibble bytes)) ∙ ap (λ (x : ℕ). x / 8) same in
+        rw p (xor-back (fromBytes (take (remainingCount (nibble % 8)) bytes)) (prediction f d (nibble / 8)))
 
-    remaining-is : remaining f d (decoded f d half bytes) ≡ take (remainingCount (half % 8)) bytes
+    remaining-is : remaining f d (decoded f d nibble bytes) ≡ take (remainingCount (nibble % 8)) bytes
     unfolding remaining
     remaining-is =
-        let k : residualCode (residual f d (decoded f d half bytes)) ≡ half % 8 = sym (half-code f d (decoded f d half bytes)) ∙ ap (λ (x : ℕ). x % 8) same in
-        rw (k, residual-is) (low-from (remainingCount (half % 8)) bytes fit hb)
+        let k : residualCode (residual f d (decoded f d nibble bytes)) ≡ nibble % 8 = sym (half-code f d (decoded f d nibble bytes)) ∙ ap (λ (x : ℕ). x % 8) same in
+        rw (k, residual-is) (low-from (remainingCount (nibble % 8)) bytes fit hb)
 
-    decoded-lt : decoded f d half bytes < 2 ^ 64
+    decoded-lt : decoded f d nibble bytes < 2 ^ 64
     unfolding decoded
     decoded-lt =
-        let n = remainingCount (half % 8) in
-        xor-lt 64 _ _ (lt-of-lt-of-le (from-lt n bytes hb) (pow-le-pow-right {n = 256} (lit< tt) {i = n} {j = 8} (bytes-le (half % 8))))
-        (prediction-lt f d (half / 8) (2 ^ 64) hf hd)
+        let n = remainingCount (nibble % 8) in
+        xor-lt 64 _ _ (lt-of-lt-of-le (from-lt n bytes hb) (pow-le-pow-right {n = 256} (lit< tt) {i = n} {j = 8} (bytes-le (nibble % 8))))
+        (prediction-lt f d (nibble / 8) (2 ^ 64) hf hd)
 
-    read-so : Read f d half bytes (record { double = decoded f d half bytes; next = remainingCount (half % 8) })
+    read-so : Read f d nibble bytes (record { double = decoded f d nibble bytes; next = remainingCount (nibble % 8) })
     read-so =
         record {
           same-half = sym same;
-          same-bytes = rw remaining-is (sym (take-append-drop (remainingCount (half % 8)) bytes));
+          same-bytes = rw remaining-is (sym (take-append-drop (remainingCount (nibble % 8)) bytes));
           double = decoded-lt;
           inside = fit;
         }
 
   -- a step takes only the half byte and the remaining bytes of the double that it gives
-  pub step-back : (x : Found) → stepOf f d half bytes ≡ some x → Read f d half bytes x
+  pub step-back : (x : Found) → stepOf f d nibble bytes ≡ some x → Read f d nibble bytes x
   step-back x e =
-      let a = accepted f d half bytes x e in
-      subst (λ (y : Found). Read f d half bytes y) (a .found) (read-so (a .fits) (a .same))
+      let a = accepted f d nibble bytes x e in
+      subst (λ (y : Found). Read f d nibble bytes y) (a .found) (read-so (a .fits) (a .same))

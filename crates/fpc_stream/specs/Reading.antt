@@ -37,21 +37,21 @@ answerOf Bad = answered none
 
 -- the double of a half byte and the bytes after it: their xor with the prediction of the half byte's side
 unfoldable pub decoded : ℕ → ℕ → ℕ → List ℕ → ℕ
-decoded f d half bytes = bitXor (fromBytes (take (remainingCount (half % 8)) bytes)) (prediction f d (half / 8))
+decoded f d nibble bytes = bitXor (fromBytes (take (remainingCount (nibble % 8)) bytes)) (prediction f d (nibble / 8))
 
 -- no byte is missing, and the rules give that double this half byte
 unfoldable pub coded : ℕ → ℕ → ℕ → List ℕ → Bool
 unfolding decoded
-coded f d half bytes = leb (remainingCount (half % 8)) (length bytes) && eqb (halfByte f d (decoded f d half bytes)) half
+coded f d nibble bytes = leb (remainingCount (nibble % 8)) (length bytes) && eqb (halfByte f d (decoded f d nibble bytes)) nibble
 
 -- one step of reading: the double and how many bytes it takes
 unfoldable pub stepOf : ℕ → ℕ → ℕ → List ℕ → Option Found
 unfolding decoded coded
-stepOf f d half bytes = cond (coded f d half bytes) (some (record { double = decoded f d half bytes; next = remainingCount (half % 8) })) none
+stepOf f d nibble bytes = cond (coded f d nibble bytes) (some (record { double = decoded f d nibble bytes; next = remainingCount (nibble % 8) })) none
 
 -- an odd end: half byte 6 and a last byte 00
 abbrev pub oddEnd : ℕ → List ℕ → Bool
-oddEnd half bytes = eqb half oddHalf && eqb (length bytes) 1 && eqb (getD bytes 0 0) oddByte
+oddEnd nibble bytes = eqb nibble oddHalf && eqb (length bytes) 1 && eqb (getD bytes 0 0) oddByte
 
 -- what `more` makes of what was read, if something was
 abbrev pub andThen : {A B : Type 0} → Option A → (A → Option B) → Option B

@@ -5,7 +5,7 @@ ghost use Rattle.slots.specs.Outcome.{countOutcome, bitOutcome, storeOutcome, r
 ghost use Rattle.slots.specs.Calls.{replied, stored, fetched};
 ghost use Rattle.fpc_stream.specs.Outcome.{fpcWriteOutcome, fpcReadOutcome};
 ghost use Rattle.fpc.specs.Calls.{outcome};
-ghost use Rattle.windlassow.specs.Plain.{params};
+ghost use Rattle.windlassow.specs.Calls.{params};
 
 // The record of the parameters.
 fn params_of(kind: u32, dimension: u32, mode: u32, planes: u32, width: u32) -> params::Params

@@ -1,5 +1,5 @@
 -- By the guards. Assumes nothing.
-use Rattle.conversions.specs.Guarded.{integerAt}
+use Rattle.conversions.specs.Calls.{integerAt}
 use Rattle.floats.proofs.Magnitudes.{integer-lt}
 use lib.Ieee.{binary32}
 use borrow.Author.Tests.{lt-ltb, le-ltb}

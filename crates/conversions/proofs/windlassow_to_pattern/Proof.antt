@@ -1,5 +1,5 @@
 -- By the guard. Assumes nothing.
-use Rattle.conversions.specs.Guarded.{patternAt}
+use Rattle.conversions.specs.Calls.{patternAt}
 use Rattle.rounding.proofs.Signs.{pattern-lt}
 use lib.Ieee.{binary32}
 use borrow.Author.Tests.{lt-ltb, le-ltb}

@@ -22,10 +22,10 @@ first-put c = c .before .before .before .before
 
 -- at most eight bytes remain of each double
 first-few : (c : tie.After-remaining-count) → c .remaining-count .result ≤ 8
-first-few c = omega (arith, c .remaining-count .ensures, bytes-le (entry c .args .a .half % 8))
+first-few c = omega (arith, c .remaining-count .ensures, bytes-le (entry c .args .a .nibble % 8))
 
 second-few : (c : tie.After-remaining-count2) → c .remaining-count2 .result ≤ 8
-second-few c = omega (arith, c .remaining-count2 .ensures, bytes-le (entry (c .before .before) .args .b .half % 8))
+second-few c = omega (arith, c .remaining-count2 .ensures, bytes-le (entry (c .before .before) .args .b .nibble % 8))
 
 remaining-count-requires : tie.Need-remaining-count-requires
 remaining-count-requires c κs = search needs

@@ -35,10 +35,10 @@ enough c = rw length-drop (c .before .before .before .if1 .left)
 
 -- the prediction of the half byte's side, the double, and the double's own half byte
 side-is : (c : tie.After-half-of)
-    → c .before .chosen .result ≡ prediction (fcm (at-entry (at-count c))) (dfcm (at-entry (at-count c))) (entry (at-count c) .args .half / 8)
+    → c .before .chosen .result ≡ prediction (fcm (at-entry (at-count c))) (dfcm (at-entry (at-count c))) (entry (at-count c) .args .nibble / 8)
 side-is c =
     c .before .chosen .ensures
-    ∙ ap (λ (x : Predicted). prediction (x .fcm) (x .dfcm) (entry (at-count c) .args .half / 8)) (at-count c .before .predict .ensures)
+    ∙ ap (λ (x : Predicted). prediction (x .fcm) (x .dfcm) (entry (at-count c) .args .nibble / 8)) (at-count c .before .predict .ensures)
 
 abbrev double : tie.After-half-of → ℕ
 double c = bitXor (c .before .before .word .result) (c .before .chosen .result)
@@ -59,13 +59,13 @@ returns : tie.Need-returns
 returns c =
     let n = c .before in
     let a = entry n .args in
-    byte-missing (at-entry n) (a .half) (rest-of n) (a .at) (n .remaining-count .result) (n .remaining-count .ensures) (rw length-drop (c .if1 .taken))
+    byte-missing (at-entry n) (a .nibble) (rest-of n) (a .at) (n .remaining-count .result) (n .remaining-count .ensures) (rw length-drop (c .if1 .taken))
 
 word-requires : tie.Need-word-requires
 word-requires c κs =
     let n = c .before in
     let s = entry n in
-    (omega (arith, c .if1 .left, s .pre .1), omega (arith, n .remaining-count .ensures, bytes-le (s .args .half % 8)))
+    (omega (arith, c .if1 .left, s .pre .1), omega (arith, n .remaining-count .ensures, bytes-le (s .args .nibble % 8)))
 
 chosen-requires : tie.Need-chosen-requires
 chosen-requires c κs = search needs
@@ -82,7 +82,7 @@ returns-2 c =
     let n = at-count h in
     let a = entry n .args in
     let w = h .before .before .word in
-    same-half (at-entry n) (a .half) (rest-of n) (a .at) (n .remaining-count .result) (n .remaining-count .ensures) (enough h) (w .result) (w .ensures)
+    same-half (at-entry n) (a .nibble) (rest-of n) (a .at) (n .remaining-count .result) (n .remaining-count .ensures) (enough h) (w .result) (w .ensures)
     (h .before .chosen .result)
     (side-is h)
     (h .half-of .result)
@@ -95,7 +95,7 @@ returns-3 c =
     let n = at-count h in
     let a = entry n .args in
     let w = h .before .before .word in
-    other-half (at-entry n) (a .half) (rest-of n) (a .at) (n .remaining-count .result) (n .remaining-count .ensures) (enough h) (w .result) (w .ensures)
+    other-half (at-entry n) (a .nibble) (rest-of n) (a .at) (n .remaining-count .result) (n .remaining-count .ensures) (enough h) (w .result) (w .ensures)
     (h .before .chosen .result)
     (side-is h)
     (h .half-of .result)
