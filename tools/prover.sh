@@ -149,11 +149,11 @@ progress() {
     printf '%s' "$held"
 }
 
-# How many provers run at a time. rt starts so many and waits for all of them before it starts more, so with two a processor few of the
+# How many provers run at a time. rt starts so many and waits for all of them before it starts more, so with three a processor few of the
 # processors wait; one takes up to 1.3 GB of memory. RT_JOBS, if it is set, decides.
 prover_jobs() {
     local jobs room
-    jobs=$((2 * $(nproc 2>/dev/null || echo 1)))
+    jobs=$((3 * $(nproc 2>/dev/null || echo 1)))
     room=$(awk '/^MemAvailable:/ { print int($2 / 1500000) }' /proc/meminfo 2>/dev/null)
     [ -z "$room" ] || [ "$room" -ge "$jobs" ] || jobs=$room
     [ "$jobs" -ge 1 ] || jobs=1

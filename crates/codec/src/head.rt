@@ -12,7 +12,7 @@ pub fn planes_needed(size: u32, us: &[u64]) -> u32
     requires { ⌜ (1 ≤ size) × (size ≤ 64) ⌝ }
     ensures { λ r. ⌜ r ≡ planesNeeded size (now (us .entry)) ⌝ }
 {
-    let ones = planes::writer::planes_with_ones(us);
+    let ones = plane_writer::planes_with_ones(us);
     let mut p = size;
     while 1 < p {
         if (ones >> (size - p)) % 2 == 1 {

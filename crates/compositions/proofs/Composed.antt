@@ -22,7 +22,7 @@ use Rattle.slots.specs.Calls.{stored, fetched}
 use Rattle.fpc_stream.specs.Stream.{stream}
 use Rattle.fpc_stream.specs.Outcome.{Outcome, done, fpcWriteOutcome, fpcReadOutcome}
 use Rattle.fpc_stream.proofs.Promises.{write-answers-0, write-done}
-use Rattle.fpc.specs.declared.Reply as fpc
+use Rattle.fpc_run.specs.declared.Reply as fpc
 use Rattle.fpc.specs.Calls.{outcome}
 use Rattle.compositions.specs.Composed.{storeRead, readAfterStore, storeThenRead, codable, planesBack, planesThereAndBack, runBack, writeThenRead}
 

@@ -13,7 +13,7 @@ use Rattle.params.specs.declared.Params.{Params}
 use Rattle.params.specs.Width.{exact, wordCount}
 use Rattle.slots.specs.declared.Reply.{Reply}
 use Rattle.slots.specs.Outcome.{storeOutcome, readOutcome, slotIn, slotOf}
-use Rattle.fpc.specs.declared.Reply as fpc
+use Rattle.fpc_run.specs.declared.Reply as fpc
 use Rattle.fpc_stream.specs.Outcome.{fpcWriteOutcome, fpcReadOutcome}
 
 -- ---- a store and then a read

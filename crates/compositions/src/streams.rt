@@ -9,7 +9,7 @@ pub fn run_there_and_back(
     doubles: &[u64],
     buf: &mut [u8],
     back: &mut [u64],
-) -> fpc::Reply
+) -> fpc_run::Reply
     ensures { λ r. ⌜
         runBack r (now (buf .exit)) (now (back .exit)) (now (f .exit)) (now (d .exit))
         ≡ writeThenRead (now (f .entry)) (now (d .entry)) (now (doubles .entry)) (now (buf .entry)) (now (back .entry)) ⌝ }

@@ -22,7 +22,7 @@ use codec::change::scratch;
 use codec::head::count_bits;
 use codec::head::field_bits;
 use codec::head::planes_needed;
-use planes::writer::Coded;
+use plane_writer::Coded;
 
 // The bits of p - 1, then p planes.
 fn put_exact_planes(size: u32, us: &[u64], buf: &mut [u8], out: Cursor, limit: usize) -> Coded
@@ -32,7 +32,7 @@ fn put_exact_planes(size: u32, us: &[u64], buf: &mut [u8], out: Cursor, limit: u
 {
     let p = planes_needed(size, us);
     let next = bits::put_number(buf, out, limit, p - 1, count_bits(size));
-    planes::writer::put_planes(size, us, p, buf, next, limit)
+    plane_writer::put_planes(size, us, p, buf, next, limit)
 }
 
 // Coefficients, by mode.
@@ -52,7 +52,7 @@ fn put_coefficients(
     if exact {
         put_exact_planes(size, us, buf, out, limit)
     } else {
-        planes::writer::put_planes(size, us, p, buf, out, limit)
+        plane_writer::put_planes(size, us, p, buf, out, limit)
     }
 }
 

@@ -8,9 +8,10 @@ use native.Mathlib.Omega.{arith}
 use lib.ListN.{length, drop, replicate}
 use lib.Seq.{sets, sets-eq}
 use borrow.Author.Tests.{lt-ltb, le-ltb}
-use Rattle.fpc.specs.declared.Reply.{Reply}
+use Rattle.fpc_run.specs.declared.Reply.{Reply}
 use Rattle.fpc_stream.specs.Outcome.{done, delivered, readInto}
-use Rattle.fpc.specs.Calls.{Stand, RanAs, Refused, outcome}
+use Rattle.fpc_run.specs.Calls.{Stand, RanAs}
+use Rattle.fpc.specs.Calls.{Refused, outcome}
 
 -- a part without places changes nothing
 pub no-room : (part out : List ℕ) → length part ≡ 0 → part ++ out ≡ out

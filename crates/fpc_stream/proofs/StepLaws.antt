@@ -57,7 +57,8 @@ pub accepted : (f d nibble : ℕ) (bytes : List ℕ) (x : Found) → stepOf f d 
 unfolding stepOf coded
 accepted f d nibble bytes x e = go (coded f d nibble bytes) refl e
   where
-    go : (b : Bool) → coded f d nibble bytes ≡ b → cond b (some (record { double = decoded f d nibble bytes; next = remainingCount (nibble % 8) })) none ≡ some x
+    go : (b : Bool) → coded f d nibble bytes ≡ b
+        → cond b (some (record { double = decoded f d nibble bytes; next = remainingCount (nibble % 8) })) none ≡ some x
         → Accepted f d nibble bytes x
     go true p q =
         let t = and-eq-true-iff (leb (remainingCount (nibble % 8)) (length bytes)) (eqb (halfByte f d (decoded f d nibble bytes)) nibble) .0 p in
@@ -82,7 +83,8 @@ module _ (f d nibble : ℕ) (bytes : List ℕ) (hf : f < 2 ^ 64) (hd : d < 2 ^ 6
     remaining-is : remaining f d (decoded f d nibble bytes) ≡ take (remainingCount (nibble % 8)) bytes
     unfolding remaining
     remaining-is =
-        let k : residualCode (residual f d (decoded f d nibble bytes)) ≡ nibble % 8 = sym (half-code f d (decoded f d nibble bytes)) ∙ ap (λ (x : ℕ). x % 8) same in
+        let k : residualCode (residual f d (decoded f d nibble bytes)) ≡ nibble % 8 =
+        sym (half-code f d (decoded f d nibble bytes)) ∙ ap (λ (x : ℕ). x % 8) same in
         rw (k, residual-is) (low-from (remainingCount (nibble % 8)) bytes fit hb)
 
     decoded-lt : decoded f d nibble bytes < 2 ^ 64

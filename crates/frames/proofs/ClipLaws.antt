@@ -15,7 +15,8 @@ use Rattle.params.specs.Rows.{first, parameterRows}
 use Rattle.params.proofs.RowLaws.{good}
 use Rattle.lines.specs.Line.{wellFormed, firstDigits, parametersOf, firstAnswer, answerLine, illFormed}
 use Rattle.lines.specs.Line.{blockWords, storedLine, lineStore, blockDigits, blockLine}
-use Rattle.lines.specs.Calls.{goodParameters, firstLine, firstParameters, noParameters, laterLine}
+use Rattle.params.specs.Calls.{goodParameters, noParameters}
+use Rattle.lines.specs.Calls.{firstLine, firstParameters, laterLine}
 use Rattle.partial_line.specs.Calls.{State, mostHeld, hold}
 use Rattle.frames.specs.Calls.{answerTo, nextLine}
 

@@ -15,7 +15,8 @@ use Rattle.slots.specs.Outcome.{Stored}
 use Rattle.params.proofs.RowLaws.{good}
 use Rattle.lines.specs.Line.{newline, Line, wellFormed, firstAnswer, answerLine, illFormed}
 use Rattle.lines.specs.Line.{bytesOf, blockWords, slotBytes, storedLine, lineStore, blockDigits, blockLine}
-use Rattle.lines.specs.Calls.{longestLine, goodParameters, firstLine, laterLine}
+use Rattle.lines.specs.Calls.{longestLine, firstLine, laterLine}
+use Rattle.params.specs.Calls.{goodParameters}
 use Rattle.partial_line.specs.Calls.{State, hold, nothingLeft}
 use Rattle.frames.specs.Calls.{lineOf, answerTo, nextLine, run, ending, taken}
 use Rattle.lines.proofs.PutLaws.{length-answer}

@@ -11,7 +11,8 @@ use lib.ListN.{length, take}
 use Rattle.params.specs.declared.Params.{Params}
 use Rattle.params.specs.Rows.{first, parameterRows}
 use Rattle.lines.specs.Line.{newline, Line, wellFormed, firstDigits, parametersOf, firstAnswer, answerLine, blockLine}
-use Rattle.lines.specs.Calls.{longestLine, goodParameters, noParameters, firstLine, firstParameters}
+use Rattle.lines.specs.Calls.{longestLine, firstLine, firstParameters}
+use Rattle.params.specs.Calls.{goodParameters, noParameters}
 use Rattle.frames.specs.Listing.{lastLine, linesAfter, listLines, listing}
 use Rattle.partial_line.specs.Calls.{State, start, mostHeld, hold, nothingLeft}
 use Rattle.frames.specs.Calls.{answerTo, nextLine, run, ending, taken, feedAll}

@@ -2,3 +2,4 @@
 pub mod Dimension
 pub mod Width
 pub mod Rows
+pub mod Calls

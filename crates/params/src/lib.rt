@@ -1,4 +1,5 @@
-// A caller's parameters, the sizes that follow from them, and the rows of document 01's table that speak of them: 1 to 8.
+// A caller's parameters, the sizes that follow from them, and the rows of document 01's table that speak of them: 1 to 8; a code's length by mode.
+pub mod code;
 pub mod rows;
 pub mod width;
 

@@ -7,7 +7,7 @@ use lib.Dec.{eqb}
 use lib.ListN.{length, take}
 use Rattle.params.specs.declared.Params.{Params}
 use Rattle.params.specs.Dimension.{mostWords}
-use Rattle.params.specs.Rows.{first, parameterRows}
+use Rattle.params.specs.Calls.{noParameters, goodParameters}
 use Rattle.partial_line.specs.declared.Partial.{Partial}
 
 -- the listing between two pieces of its input: whether the first line is done; its parameters; the line so far
@@ -24,13 +24,13 @@ mostHeld = 8 * mostWords + 1
 unfoldable pub stateOf : Partial → State
 stateOf s = record { started = s .started; params = s .params; held = take (s .len) (s .line) }
 
--- before the first piece: nothing is held, and no block can be stored with the parameters, whose dimension is 0
+-- before the first piece
 abbrev pub start : State
-start = record { started = false; params = record { kind = 0; dimension = 0; mode = 0; planes = 0; width = 0 }; held = [] }
+start = record { started = false; params = noParameters; held = [] }
 
 -- whether the first line was bad: "the program stops"
 unfoldable pub stopped : State → Bool
-stopped s = s .started && not (eqb (first (parameterRows (s .params))) 0)
+stopped s = s .started && not (goodParameters (s .params))
 
 -- the state with some bytes more of its line
 unfoldable pub hold : State → List ℕ → State

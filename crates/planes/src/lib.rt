@@ -1,2 +1,1 @@
-// The bit planes of blocks of words of up to 64 bits, coded.
-pub mod writer;
+// The bit planes of words: what is coded of them and what is read, defined in specs/, with laws in proofs/. There is no code.

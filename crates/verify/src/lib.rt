@@ -26,7 +26,7 @@ fn smallest(size: u32, p: u32, us: &[u64]) -> bool
     if p == 1 {
         return true;
     }
-    (planes::writer::planes_with_ones(us) >> (size - p)) % 2 == 1
+    (plane_writer::planes_with_ones(us) >> (size - p)) % 2 == 1
 }
 
 // Whether all of p planes were read whole, are as few as can be, and are followed by zeros.

@@ -100,7 +100,7 @@ pub extern "C" fn windlassow_fpc_write(
     d: &mut [u64],
     doubles: &[u64],
     out: &mut [u8],
-) -> fpc::Reply
+) -> fpc_run::Reply
     ensures { λ r. ⌜
         outcome r (now (out .exit)) (now (f .exit)) (now (d .exit))
         ≡ fpcWriteOutcome (now (f .entry)) (now (d .entry)) (now (doubles .entry)) (now (out .entry)) ⌝ }
@@ -115,7 +115,7 @@ pub extern "C" fn windlassow_fpc_read(
     d: &mut [u64],
     stream: &[u8],
     doubles: &mut [u64],
-) -> fpc::Reply
+) -> fpc_run::Reply
     ensures { λ r. ⌜
         outcome r (now (doubles .exit)) (now (f .exit)) (now (d .exit))
         ≡ fpcReadOutcome (now (f .entry)) (now (d .entry)) (now (stream .entry)) (now (doubles .entry)) ⌝ }

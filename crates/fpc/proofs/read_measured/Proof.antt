@@ -5,8 +5,9 @@ use mathlib.Core.Path.{_∙_, subst}
 use Prim.Native.Nat.{ℕ}
 use lib.ListN.{length}
 use borrow.Author.Needs.{needs}
-use Rattle.fpc.specs.declared.Reply.{Reply}
-use Rattle.fpc.specs.Calls.{RanAs, Refused}
+use Rattle.fpc_run.specs.declared.Reply.{Reply}
+use Rattle.fpc_run.specs.Calls.{RanAs}
+use Rattle.fpc.specs.Calls.{Refused}
 use Rattle.fpc_stream.specs.Reading.{read}
 use Rattle.fpc.proofs.Delivery.{ClearedAt, cleared, read-23, read-22, read-0}
 use Rattle.fpc.proofs.read_measured.Statement.{statement}

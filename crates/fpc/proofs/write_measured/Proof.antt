@@ -7,7 +7,7 @@ use native.Mathlib.Omega.{arith}
 use lib.Seq.{sets}
 use lib.ListN.{length}
 use borrow.Author.Needs.{needs}
-use Rattle.fpc.specs.Calls.{Stand}
+use Rattle.fpc_run.specs.Calls.{Stand}
 use Rattle.fpc_stream.specs.Stream.{stream}
 use Rattle.fpc.proofs.Delivery.{cleared, row-22, row-0}
 use Rattle.fpc_stream.proofs.Lengths.{stream-le}

@@ -1,0 +1,4 @@
+-- The laws of the plane coder.
+pub mod Places
+pub mod Steps
+pub mod Ones

@@ -1,0 +1,167 @@
+// The coder: writes the planes of words to a stream of bits, below a limit.
+ghost use mathlib.Core.Path.{_≡_};
+ghost use Prim.Native.Nat.{ℕ, _+_, _-_, _*_, _^_, _≤_, _<_};
+ghost use lib.ListN.{length, getD, take, drop};
+ghost use Rattle.bits.specs.Stream.{bit, bitsOf};
+ghost use Rattle.bits.specs.Calls.{Written};
+ghost use Rattle.planes.specs.Coder.{plane, any, onesEnd, scan, test, scanMoves, planeCode, planeNext, planesCode};
+ghost use Rattle.planes.specs.Calls.{Advanced};
+use bits::Cursor;
+
+// Where the coder stands: in the stream, and in the plane (document 01's n).
+struct Coder {
+    pub out: Cursor,
+    pub n: usize,
+}
+
+// What the coder did.
+pub struct Coded {
+    pub out: Cursor,
+}
+
+// Bit k of word i.
+fn bit_at(words: &[u64], k: u32, i: usize) -> bool
+    requires { ⌜ (k < 64) × (i < length (now words)) ⌝ }
+    ensures { λ r. ⌜ r ≡ bit k (getD (now (words .entry)) i 0) ⌝ }
+{
+    (words[i] >> k) % 2 == 1
+}
+
+// The place after the last one of plane k.
+fn ones_end(words: &[u64], k: u32) -> usize
+    requires { ⌜ k < 64 ⌝ }
+    ensures { λ r. ⌜ r ≡ onesEnd (plane k (now (words .entry))) ⌝ }
+{
+    let mut i = words.len();
+    while 0 < i {
+        if bit_at(words, k, i - 1) {
+            return i;
+        }
+        i -= 1;
+    }
+    0
+}
+
+// A word whose bit k says whether plane k has a one.
+pub fn planes_with_ones(words: &[u64]) -> u64
+    ensures { λ r. ⌜ ((k : ℕ) → bit k r ≡ any (plane k (now (words .entry)))) ⌝ }
+{
+    let mut all: u64 = 0;
+    let mut i = 0;
+    while i < words.len() {
+        all = all | words[i];
+        i += 1;
+    }
+    all
+}
+
+// The test at place n: is any bit from there on a one? A 1 is followed by a scan.
+fn test(
+    words: &[u64],
+    k: u32,
+    end: usize,
+    n: usize,
+    buf: &mut [u8],
+    out: Cursor,
+    limit: usize,
+) -> Coder
+    requires { ⌜ (k < 64) × (n ≤ length (now words)) × (end ≡ onesEnd (plane k (now words))) × (limit ≤ 8 * length (now buf))
+        × (out .at + 2 * (length (now words) - n) < 2 ^ 32) ⌝ }
+    ensures { λ r. ⌜ Advanced (bitsOf (now (buf .entry))) (bitsOf (now (buf .exit))) out limit
+        (test (drop n (plane k (now (words .entry))))) (planeNext n (plane k (now (words .entry)))) (r .out) (r .n) ⌝ }
+{
+    if n < words.len() {
+        if n < end {
+            let next = bits::put(buf, out, limit, true);
+            scan(words, k, end, n, buf, next, limit)
+        } else {
+            let next = bits::put(buf, out, limit, false);
+            Coder { out: next, n }
+        }
+    } else {
+        Coder { out, n }
+    }
+}
+
+// The scan from place n: bits are written until a one has been, then comes a test; the bit at the last place is never written.
+fn scan(
+    words: &[u64],
+    k: u32,
+    end: usize,
+    n: usize,
+    buf: &mut [u8],
+    out: Cursor,
+    limit: usize,
+) -> Coder
+    requires { ⌜ (k < 64) × (n < length (now words)) × (end ≡ onesEnd (plane k (now words))) × (limit ≤ 8 * length (now buf))
+        × (out .at + 2 * (length (now words) - n) < 2 ^ 32 + 1) ⌝ }
+    ensures { λ r. ⌜ Advanced (bitsOf (now (buf .entry))) (bitsOf (now (buf .exit))) out limit
+        (scan (drop n (plane k (now (words .entry))))) (n + scanMoves (drop n (plane k (now (words .entry))))) (r .out) (r .n) ⌝ }
+{
+    let past = n + 1;
+    if past < words.len() {
+        let b = bit_at(words, k, n);
+        let next = bits::put(buf, out, limit, b);
+        if b {
+            test(words, k, end, past, buf, next, limit)
+        } else {
+            scan(words, k, end, past, buf, next, limit)
+        }
+    } else {
+        Coder { out, n: past }
+    }
+}
+
+// The n first bits of plane k, as they are.
+fn verbatim(words: &[u64], k: u32, n: usize, buf: &mut [u8], out: Cursor, limit: usize) -> Cursor
+    requires { ⌜ (k < 64) × (n ≤ length (now words)) × (limit ≤ 8 * length (now buf)) × (out .at + n < 2 ^ 32) ⌝ }
+    ensures { λ r. ⌜ Written (bitsOf (now (buf .entry))) (bitsOf (now (buf .exit))) out limit (take n (plane k (now (words .entry)))) r ⌝ }
+{
+    let mut next = out;
+    let mut i = 0;
+    while i < n {
+        next = bits::put(buf, next, limit, bit_at(words, k, i));
+        i += 1;
+    }
+    next
+}
+
+// Plane k: its n first bits as they are, then a test, if places are left.
+fn put_plane(words: &[u64], k: u32, n: usize, buf: &mut [u8], out: Cursor, limit: usize) -> Coder
+    requires { ⌜ (k < 64) × (n ≤ length (now words)) × (limit ≤ 8 * length (now buf)) × (out .at + 2 * length (now words) < 2 ^ 32) ⌝ }
+    ensures { λ r. ⌜ Advanced (bitsOf (now (buf .entry))) (bitsOf (now (buf .exit))) out limit
+        (planeCode n (plane k (now (words .entry)))) (planeNext n (plane k (now (words .entry)))) (r .out) (r .n) ⌝ }
+{
+    let next = verbatim(words, k, n, buf, out, limit);
+    if n < words.len() {
+        let end = ones_end(words, k);
+        test(words, k, end, n, buf, next, limit)
+    } else {
+        Coder { out: next, n }
+    }
+}
+
+// The planes of words of `size` bits from the top one downward, p of them.
+pub fn put_planes(
+    size: u32,
+    words: &[u64],
+    p: u32,
+    buf: &mut [u8],
+    out: Cursor,
+    limit: usize,
+) -> Coded
+    requires { ⌜ (size ≤ 64) × (p ≤ size) × (length (now words) ≤ 256) × (limit ≤ 8 * length (now buf)) × (out .at < 2 ^ 31) ⌝ }
+    ensures { λ r. ⌜ Written (bitsOf (now (buf .entry))) (bitsOf (now (buf .exit))) out limit (planesCode size p (now (words .entry))) (r .out) ⌝ }
+{
+    let lowest = size - p;
+    let mut next = out;
+    let mut n = 0;
+    let mut k = size;
+    while lowest < k {
+        k -= 1;
+        let c = put_plane(words, k, n, buf, next, limit);
+        next = c.out;
+        n = c.n;
+    }
+    Coded { out: next }
+}
