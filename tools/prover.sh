@@ -118,10 +118,10 @@ elapsed() {
     printf '%d:%02d' $((SECONDS / 60)) $((SECONDS % 60))
 }
 
-# progress CRATES EDITS: a line for each crate and each edit, 'k of n' with the time so far. What the prover says of a crate that it
+# progress CRATES EDITS FILE: a line for each crate and each edit, 'k of n' with the time so far; the file is made once every crate was tried. What the prover says of a crate that it
 # proves, notes on slow steps among it, is in target/log and is not shown; what it says of one that it does not prove is.
 progress() {
-    local crates=$1 edits=$2 crate=0 edit=0 held='' open='' line
+    local crates=$1 edits=$2 tried=${3:-/dev/null} crate=0 edit=0 held='' open='' line
     while IFS= read -r line; do
         case $line in
         'rt: must-fail '*)
@@ -145,15 +145,16 @@ progress() {
         [0-9]*' passed, '*' failed') ;;
         *) if [ -n "$open" ]; then printf '%s\n' "$line"; else held=$held$line$'\n'; fi ;;
         esac
+        [ "$crate" -lt "$crates" ] || [ -e "$tried" ] || : >"$tried"
     done
     printf '%s' "$held"
 }
 
-# How many provers run at a time. rt starts so many and waits for all of them before it starts more, so with three a processor few of the
+# How many provers run at a time. rt starts so many and waits for all of them before it starts more, so with two a processor few of the
 # processors wait; one takes up to 1.3 GB of memory. RT_JOBS, if it is set, decides.
 prover_jobs() {
     local jobs room
-    jobs=$((3 * $(nproc 2>/dev/null || echo 1)))
+    jobs=$((2 * $(nproc 2>/dev/null || echo 1)))
     room=$(awk '/^MemAvailable:/ { print int($2 / 1500000) }' /proc/meminfo 2>/dev/null)
     [ -z "$room" ] || [ "$room" -ge "$jobs" ] || jobs=$room
     [ "$jobs" -ge 1 ] || jobs=1
@@ -166,8 +167,8 @@ prove_crates() {
     return "${PIPESTATUS[0]}"
 }
 
-# prove_all LOG: the gate, with all that rt says in LOG
+# prove_all LOG [FILE]: the gate, with all that rt says in LOG; the file is made once every crate was tried
 prove_all() {
-    RT_JOBS=$(prover_jobs) rt ci 2>&1 | tee "$1" | progress "$(crate_count)" "$(edit_count)"
+    RT_JOBS=$(prover_jobs) rt ci 2>&1 | tee "$1" | progress "$(crate_count)" "$(edit_count)" "${2:-/dev/null}"
     return "${PIPESTATUS[0]}"
 }

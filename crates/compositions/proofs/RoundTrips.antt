@@ -16,12 +16,12 @@ use Rattle.planes.specs.Reader.{readWords}
 use Rattle.planes.proofs.Bound.{bound}
 use Rattle.planes.proofs.RoundTrip.{words-top}
 use Rattle.fpc_stream.specs.Outcome.{Outcome, goodTables, done, fpcWriteOutcome}
-use Rattle.fpc_stream.proofs.Lengths.{table-lengths}
 use Rattle.fpc_stream.proofs.Rows.{good-tables}
 use Rattle.fpc_stream.proofs.Promises.{written-is-read, write-answers-0, write-done}
 use Rattle.compositions.specs.Composed.{readAfterStore, storeThenRead, planesThereAndBack, writeThenRead}
 use Rattle.compositions.specs.Composed.{StoredBlock, OtherSlotRead, TopPlanes, RoundTrips}
 use Rattle.compositions.proofs.Composed.{coded}
+use Rattle.compositions.proofs.Tables.{table-lengths}
 use Rattle.claims.proofs.Demand1.{other-slot}
 use Rattle.claims.proofs.Demand2.{comes-back}
 

@@ -1,12 +1,10 @@
--- How long a stream can be, and how long the tables are. Assumes nothing.
-use mathlib.Core.Path.{_≡_, refl, _∙_}
+-- How long a stream can be. Assumes nothing.
 use mathlib.Core.List.{List, [], _∷_}
 use Prim.Native.Nat.{ℕ, _+_, _*_, _/_, _≤_}
 use native.Mathlib.Omega.{arith}
-use lib.ListN.{length, length-append, length-set, length-replicate}
-use Rattle.words.specs.Word.{minus}
-use Rattle.fpc_stream.specs.Predictors.{Predictors, startPredictors, fcm, dfcm, update, after}
-use Rattle.fpc_stream.specs.Stream.{residualCode, residual, remainingAfter, oddByte, pairBytes, oddBytes, streamFrom, stream, tableF, tableD}
+use lib.ListN.{length, length-append}
+use Rattle.fpc_stream.specs.Predictors.{Predictors, startPredictors, fcm, dfcm, update}
+use Rattle.fpc_stream.specs.Stream.{residualCode, residual, remainingAfter, oddByte, pairBytes, oddBytes, streamFrom, stream}
 use Rattle.fpc_stream.specs.Reading.{mostDoubles}
 use Rattle.fpc_stream.proofs.CodeLaws.{bytes-le}
 use Rattle.fpc_stream.proofs.StepLaws.{length-remaining}
@@ -36,16 +34,3 @@ stream-from-le size s (v ∷ w ∷ vs) =
 pub stream-le : (size : ℕ) (vs : List ℕ) → length vs ≤ mostDoubles → length (stream size vs) ≤ 34816
 unfolding stream
 stream-le size vs h = omega (arith, stream-from-le size (startPredictors size) vs)
-
--- the tables keep their lengths
-after-lengths : (size : ℕ) (s : Predictors) (vs : List ℕ) → (length (after size s vs .f) ≡ length (s .f)) × (length (after size s vs .d) ≡ length (s .d))
-after-lengths size s [] = (refl, refl)
-after-lengths size s (v ∷ vs) =
-    let h = after-lengths size (update size s v) vs in
-    (h .0 ∙ length-set (s .f) (s .h) v, h .1 ∙ length-set (s .d) (s .g) (minus 64 v (s .last)))
-
-pub table-lengths : (size : ℕ) (vs : List ℕ) → (length (tableF size vs) ≡ size) × (length (tableD size vs) ≡ size)
-unfolding tableF tableD
-table-lengths size vs =
-    let h = after-lengths size (startPredictors size) vs in
-    (h .0 ∙ length-replicate size 0, h .1 ∙ length-replicate size 0)

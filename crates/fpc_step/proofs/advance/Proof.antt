@@ -1,5 +1,5 @@
 -- `fpc_step::advance` meets its contract: the library's wrapping difference is `minus`, and a store keeps the length. Assumes nothing.
-use mathlib.Core.Path.{_≡_}
+use mathlib.Core.Path.{_≡_, refl}
 use Prim.Native.Nat.{ℕ, _+_, _%_, _^_, _<_}
 use native.Mathlib.Omega.{arith}
 use lib.ListN.{length-set}
@@ -52,7 +52,7 @@ returns c =
     let a = c .before .before .before .args in
     let t = c .wrapping-sub-u64 .result in
     let w : t ≡ minus 64 (a .v) (a .p .last) = wraps t (a .v) (a .p .last) (omega arith) (omega arith) (omega arith) (c .wrapping-sub-u64 .ensures) in
-    rw (length-set, w)
+    rw (length-set, w) refl
 
 pub advance-spec : {M : Type 1} → statement M
 advance-spec =
