@@ -1,3 +1,4 @@
 -- The definitions that the contracts of `order` cite.
 pub mod Lists
+pub mod Tables
 pub mod Order

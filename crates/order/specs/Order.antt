@@ -5,6 +5,7 @@ use Prim.Native.Nat.{ℕ, zero, suc, _+_, _-_, _*_, _/_, _%_, _^_}
 use lib.Dec.{ltb, eqb}
 use lib.ListN.{length, getD}
 use Rattle.order.specs.Lists.{tabulate}
+use Rattle.order.specs.Tables.{cubeOrder, stackOrder}
 
 -- the indices i, j, k, .. of place i + 4j + 16k + .. in dimension d
 abbrev pub indices : ℕ → ℕ → List ℕ
@@ -29,7 +30,8 @@ larger [] js = false
 larger (i ∷ is) [] = false
 larger (i ∷ is) (j ∷ js) = smaller j i (larger is js)
 
--- "by i+j, then by i^2+j^2, ties by larger i first": the place with the indices is goes before the one with js
+-- "by i+j, then by i^2+j^2, ties by larger i first", and in more dimensions "by the sum of the indices, then by the sum of their squares, then larger first index,
+-- then larger second, and so on": the place with the indices is goes before the one with js
 abbrev pub goesBefore : List ℕ → List ℕ → Bool
 goesBefore is js = smaller (sum is) (sum js) (smaller (sumOfSquares is) (sumOfSquares js) (larger is js))
 
@@ -55,12 +57,14 @@ unfoldable pub inOrder : ℕ → List ℕ → Bool
 inOrder d t = rising d t && permutes (4 ^ d) t
 
 -- the places in the order of coefficients: "In dimension 2 the places are 0 1 4 5 2 8 6 9 3 12 10 7 13 11 14 15".
--- A dimension above 2 has no table
+-- A dimension above 4 has no table
 abbrev pub order : ℕ → List ℕ
 order zero = 0 ∷ []
 order (suc zero) = 0 ∷ 1 ∷ 2 ∷ 3 ∷ []
 order (suc (suc zero)) = 0 ∷ 1 ∷ 4 ∷ 5 ∷ 2 ∷ 8 ∷ 6 ∷ 9 ∷ 3 ∷ 12 ∷ 10 ∷ 7 ∷ 13 ∷ 11 ∷ 14 ∷ 15 ∷ []
-order (suc (suc (suc d))) = []
+order (suc (suc (suc zero))) = cubeOrder
+order (suc (suc (suc (suc zero)))) = stackOrder
+order (suc (suc (suc (suc (suc d))))) = []
 
 -- the values in the order of the table
 unfoldable pub reorder : List ℕ → List ℕ → List ℕ

@@ -13,12 +13,15 @@ pub struct Params {
 }
 
 // The greatest dimension, and N of that dimension.
-pub const TOP_DIMENSION: u32 = 2;
+pub const TOP_DIMENSION: u32 = 4;
 
 pub const MOST_WORDS: usize = 1 << (2 * TOP_DIMENSION);
 
+// N of the dimensions up to 2, whose blocks need little room.
+pub const FEW_WORDS: usize = 16;
+
 // The widest slot, in bits and in whole bytes.
-pub const WIDEST: u32 = 1024;
+pub const WIDEST: u32 = 8462;
 
 pub const WIDEST_BITS: usize = WIDEST as usize;
 

@@ -17,7 +17,7 @@ fn within(low: u32, a: u32, high: u32) -> bool
     low <= a && a <= high
 }
 
-// Whether a width is 0 or from 16 to 1,024.
+// Whether a width is 0 or from 16 to the widest.
 fn good_width(w: u32) -> bool
     ensures { λ r. ⌜ r ≡ goodWidth w ⌝ }
 {
