@@ -23,29 +23,29 @@ module _ (t : Transform) (s : ℕ) (ws : List ℕ) where
   unfolding along
   words-along k keeps h = words-tabulate k (length ws) _ (λ p. keeps _ _ _ _ (h _) (h _) (h _) (h _) (inLine s p))
 
-  along-at : (p : ℕ) → p < length ws → getD (along t s ws) p 0 ≡ getD (line t s (lineStart s p) ws) (inLine s p) 0
+  pub along-at : (p : ℕ) → p < length ws → getD (along t s ws) p 0 ≡ getD (line t s (lineStart s p) ws) (inLine s p) 0
   unfolding along
   along-at p h = getD-tabulate (length ws) _ p 0 h
 
 -- a place p of a list of m * 4 * s values, and the line of stride s that it is in
 module _ (s m p : ℕ) (some : 0 < s) (inside : p < m * 4 * s) where
   -- its number in the line, the line's start, and how many strides of four lines lie before it
-  abbrev nth : ℕ
+  abbrev pub nth : ℕ
   nth = inLine s p
 
-  abbrev start : ℕ
+  abbrev pub start : ℕ
   start = lineStart s p
 
-  abbrev lines : ℕ
+  abbrev pub lines : ℕ
   lines = p / s / 4
 
   whole : p ≡ (lines * 4 + nth) * s + p % s
   whole = sym (ap (λ (x : ℕ). x * s + p % s) (div-add-mod' (p / s) 4) ∙ div-add-mod' p s)
 
-  start-is : start ≡ lines * 4 * s + p % s
+  pub start-is : start ≡ lines * 4 * s + p % s
   start-is = let e : p ≡ lines * 4 * s + nth * s + p % s = rw (← add-mul (lines * 4) nth s) whole in omega arith
 
-  own : start + nth * s ≡ p
+  pub own : start + nth * s ≡ p
   own = let e : p ≡ lines * 4 * s + nth * s + p % s = rw (← add-mul (lines * 4) nth s) whole in sub-add-cancel (omega arith)
 
   at : (j : ℕ) → start + j * s ≡ (lines * 4 + j) * s + p % s

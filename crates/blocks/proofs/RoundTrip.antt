@@ -2,8 +2,10 @@
 use mathlib.Core.Path.{_≡_, refl, ap, _∙_, sym}
 use mathlib.Core.Bool.{Bool, true}
 use mathlib.Core.List.{List}
-use Prim.Native.Nat.{ℕ, zero, suc, _*_, _^_, _<_}
+use Prim.Native.Nat.{ℕ, zero, suc, _+_, _-_, _*_, _^_, _<_}
 use native.Mathlib.Nat.{zero-lt-suc, one-le-pow, pow-succ', mul-assoc, one-mul}
+use native.Mathlib.Numerals.{add-one}
+use native.Mathlib.Omega.{arith}
 use lib.ListN.{length}
 use Rattle.words.specs.Word.{AllBelow}
 use Rattle.transforms.specs.Four.{differ, undiffer, writing, reading}
@@ -60,3 +62,13 @@ module _ (w : ℕ) where
 
   pub forward-backward : (d : ℕ) (ws : List ℕ) → length ws ≡ 4 ^ d → AllBelow (2 ^ w) ws → forward w true d (backward w true d ws) ≡ ws
   forward-backward d ws long words = trip-back d 1 ws (long ∙ sym (one-mul (4 ^ d))) words
+
+-- one axis more, in writing and in reading
+module _ (w : ℕ) (exact : Bool) (a : ℕ) (ws now : List ℕ) {next : List ℕ} where
+  pub axis-written : now ≡ forward w exact a ws → next ≡ along (writing w exact) (4 ^ a) now → next ≡ forward w exact (a + 1) ws
+  axis-written before here = rw add-one (here ∙ ap (along (writing w exact) (4 ^ a)) before)
+
+  pub axis-read : 0 < a → next ≡ along (reading w exact) (4 ^ (a - 1)) now → backward w exact a now ≡ ws → backward w exact (a - 1) next ≡ ws
+  axis-read some here before =
+      let e : suc (a - 1) ≡ a = omega arith in
+      ap (backward w exact (a - 1)) here ∙ ap (λ (x : ℕ). backward w exact x now) e ∙ before

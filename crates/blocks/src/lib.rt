@@ -1,65 +1,57 @@
-// Blocks of words: document 01's "From words to coefficients", and back, in both dimensions and modes.
+// Blocks of words: document 01's "From words to coefficients", and back, in every dimension and both modes.
+mod axes;
 mod square;
 
-use crate::square::flat_of;
-use crate::square::read_square;
-use crate::square::square_of;
-use crate::square::write_square;
-use order::arranged;
-use order::placed;
-use transforms::read_four;
-use transforms::write_four;
-use words::nega;
-use words::unnega;
+use crate::axes::read_axes;
+use crate::axes::write_axes;
+use crate::square::read_sixteen;
+use crate::square::write_sixteen;
 ghost use mathlib.Core.Path.{_≡_};
+ghost use Prim.Native.Nat.{_^_, _≤_};
 ghost use lib.ListN.{length};
+ghost use Rattle.params.specs.Dimension.{Dimension};
 ghost use Rattle.words.specs.Calls.{Size};
+ghost use Rattle.blocks.specs.Axes.{forward, backward};
 ghost use Rattle.blocks.specs.Coefficients.{coefficients, values};
 
-// The coefficients of a block of dimension 1.
-pub fn coefficients4(size: u32, words: &[u64], exact: bool) -> [u64; 4]
-    requires { ⌜ Size size × (length (now words) ≡ 4) ⌝ }
-    ensures { λ r. ⌜ r ≡ coefficients size exact 1 (now (words .entry)) ⌝ }
+// The transform in writing. A block of dimension 2 is done as four rows.
+fn write_block(size: u32, exact: bool, d: u32, words: &mut [u64])
+    requires { ⌜ (1 ≤ size) × (size ≤ 64) × Dimension d × (length (now words) ≡ 4 ^ d) ⌝ }
+    ensures { λ _. ⌜ now (words .exit) ≡ forward size exact d (now (words .entry)) ⌝ }
 {
-    let a = write_four(size, [words[0], words[1], words[2], words[3]], exact);
-    [
-        nega(size, a[0]),
-        nega(size, a[1]),
-        nega(size, a[2]),
-        nega(size, a[3]),
-    ]
+    if d == 2 {
+        write_sixteen(size, exact, words);
+    } else {
+        write_axes(size, exact, d, words);
+    }
+}
+
+// And in reading.
+fn read_block(size: u32, exact: bool, d: u32, words: &mut [u64])
+    requires { ⌜ (1 ≤ size) × (size ≤ 64) × Dimension d × (length (now words) ≡ 4 ^ d) ⌝ }
+    ensures { λ _. ⌜ now (words .exit) ≡ backward size exact d (now (words .entry)) ⌝ }
+{
+    if d == 2 {
+        read_sixteen(size, exact, words);
+    } else {
+        read_axes(size, exact, d, words);
+    }
+}
+
+// The coefficients of a block, whose words are used up.
+pub fn coefficients(size: u32, exact: bool, d: u32, words: &mut [u64], cs: &mut [u64])
+    requires { ⌜ Size size × Dimension d × (length (now words) ≡ 4 ^ d) × (length (now cs) ≡ 4 ^ d) ⌝ }
+    ensures { λ _. ⌜ now (cs .exit) ≡ coefficients size exact d (now (words .entry)) ⌝ }
+{
+    write_block(size, exact, d, words);
+    order::arrange(size, d, words, cs);
 }
 
 // And back.
-pub fn values4(size: u32, cs: [u64; 4], exact: bool) -> [u64; 4]
-    requires { ⌜ Size size ⌝ }
-    ensures { λ r. ⌜ r ≡ values size exact 1 cs ⌝ }
+pub fn values(size: u32, exact: bool, d: u32, cs: &[u64], words: &mut [u64])
+    requires { ⌜ Size size × Dimension d × (length (now cs) ≡ 4 ^ d) × (length (now words) ≡ 4 ^ d) ⌝ }
+    ensures { λ _. ⌜ now (words .exit) ≡ values size exact d (now (cs .entry)) ⌝ }
 {
-    read_four(
-        size,
-        [
-            unnega(size, cs[0]),
-            unnega(size, cs[1]),
-            unnega(size, cs[2]),
-            unnega(size, cs[3]),
-        ],
-        exact,
-    )
-}
-
-// The coefficients of a block of dimension 2.
-pub fn coefficients16(size: u32, words: &[u64], exact: bool) -> [u64; 16]
-    requires { ⌜ Size size × (length (now words) ≡ 16) ⌝ }
-    ensures { λ r. ⌜ r ≡ coefficients size exact 2 (now (words .entry)) ⌝ }
-{
-    arranged(size, flat_of(write_square(size, square_of(words), exact)))
-}
-
-// And back.
-pub fn values16(size: u32, cs: [u64; 16], exact: bool) -> [u64; 16]
-    requires { ⌜ Size size ⌝ }
-    ensures { λ r. ⌜ r ≡ values size exact 2 cs ⌝ }
-{
-    let flat = placed(size, cs);
-    flat_of(read_square(size, square_of(&flat), exact))
+    order::put_back(size, d, cs, words);
+    read_block(size, exact, d, words);
 }

@@ -1,34 +1,21 @@
 // A block of dimension 2, four rows of four values by value: its rows and columns, and its flat form.
-use transforms::read_four;
-use transforms::write_four;
+use transforms::transform_four;
 ghost use mathlib.Core.Path.{_≡_};
 ghost use Prim.Native.Nat.{_^_, _≤_, _<_};
 ghost use lib.ListN.{length};
-ghost use Rattle.transforms.specs.Four.{writing, reading};
+ghost use Rattle.transforms.specs.Calls.{transformOf};
 ghost use Rattle.blocks.specs.Axes.{along, forward, backward};
 ghost use Rattle.blocks.specs.Calls.{flat, eachRow, columnOf, transposed};
 
-fn write_rows(size: u32, b: [[u64; 4]; 4], exact: bool) -> [[u64; 4]; 4]
+fn rows(size: u32, b: [[u64; 4]; 4], exact: bool, back: bool) -> [[u64; 4]; 4]
     requires { ⌜ (1 ≤ size) × (size ≤ 64) ⌝ }
-    ensures { λ r. ⌜ r ≡ eachRow (writing size exact) b ⌝ }
+    ensures { λ r. ⌜ r ≡ eachRow (transformOf size exact back) b ⌝ }
 {
     [
-        write_four(size, b[0], exact),
-        write_four(size, b[1], exact),
-        write_four(size, b[2], exact),
-        write_four(size, b[3], exact),
-    ]
-}
-
-fn read_rows(size: u32, b: [[u64; 4]; 4], exact: bool) -> [[u64; 4]; 4]
-    requires { ⌜ (1 ≤ size) × (size ≤ 64) ⌝ }
-    ensures { λ r. ⌜ r ≡ eachRow (reading size exact) b ⌝ }
-{
-    [
-        read_four(size, b[0], exact),
-        read_four(size, b[1], exact),
-        read_four(size, b[2], exact),
-        read_four(size, b[3], exact),
+        transform_four(size, b[0], exact, back),
+        transform_four(size, b[1], exact, back),
+        transform_four(size, b[2], exact, back),
+        transform_four(size, b[3], exact, back),
     ]
 }
 
@@ -47,46 +34,47 @@ fn transpose(b: [[u64; 4]; 4]) -> [[u64; 4]; 4]
 }
 
 // The lines along axis a: the rows along axis 0, the columns along axis 1.
-fn write_along(size: u32, b: [[u64; 4]; 4], a: u32, exact: bool) -> [[u64; 4]; 4]
+fn rows_or_columns(size: u32, b: [[u64; 4]; 4], a: u32, exact: bool, back: bool) -> [[u64; 4]; 4]
     requires { ⌜ (1 ≤ size) × (size ≤ 64) × a < 2 ⌝ }
-    ensures { λ r. ⌜ flat r ≡ along (writing size exact) (4 ^ a) (flat b) ⌝ }
+    ensures { λ r. ⌜ flat r ≡ along (transformOf size exact back) (4 ^ a) (flat b) ⌝ }
 {
     if a == 0 {
-        write_rows(size, b, exact)
+        rows(size, b, exact, back)
     } else {
-        transpose(write_rows(size, transpose(b), exact))
-    }
-}
-
-fn read_along(size: u32, b: [[u64; 4]; 4], a: u32, exact: bool) -> [[u64; 4]; 4]
-    requires { ⌜ (1 ≤ size) × (size ≤ 64) × a < 2 ⌝ }
-    ensures { λ r. ⌜ flat r ≡ along (reading size exact) (4 ^ a) (flat b) ⌝ }
-{
-    if a == 0 {
-        read_rows(size, b, exact)
-    } else {
-        transpose(read_rows(size, transpose(b), exact))
+        transpose(rows(size, transpose(b), exact, back))
     }
 }
 
 // The rows, then the columns.
-pub fn write_square(size: u32, b: [[u64; 4]; 4], exact: bool) -> [[u64; 4]; 4]
+fn write_square(size: u32, b: [[u64; 4]; 4], exact: bool) -> [[u64; 4]; 4]
     requires { ⌜ (1 ≤ size) × (size ≤ 64) ⌝ }
     ensures { λ r. ⌜ flat r ≡ forward size exact 2 (flat b) ⌝ }
 {
-    write_along(size, write_along(size, b, 0, exact), 1, exact)
+    rows_or_columns(
+        size,
+        rows_or_columns(size, b, 0, exact, false),
+        1,
+        exact,
+        false,
+    )
 }
 
 // The columns, then the rows.
-pub fn read_square(size: u32, b: [[u64; 4]; 4], exact: bool) -> [[u64; 4]; 4]
+fn read_square(size: u32, b: [[u64; 4]; 4], exact: bool) -> [[u64; 4]; 4]
     requires { ⌜ (1 ≤ size) × (size ≤ 64) ⌝ }
     ensures { λ r. ⌜ flat r ≡ backward size exact 2 (flat b) ⌝ }
 {
-    read_along(size, read_along(size, b, 1, exact), 0, exact)
+    rows_or_columns(
+        size,
+        rows_or_columns(size, b, 1, exact, true),
+        0,
+        exact,
+        true,
+    )
 }
 
 // Sixteen words as four rows.
-pub fn square_of(words: &[u64]) -> [[u64; 4]; 4]
+fn square_of(words: &[u64]) -> [[u64; 4]; 4]
     requires { ⌜ length (now words) ≡ 16 ⌝ }
     ensures { λ r. ⌜ flat r ≡ now (words .entry) ⌝ }
 {
@@ -99,14 +87,31 @@ pub fn square_of(words: &[u64]) -> [[u64; 4]; 4]
 }
 
 // Four rows as sixteen words.
-pub fn flat_of(b: [[u64; 4]; 4]) -> [u64; 16]
-    ensures { λ r. ⌜ r ≡ flat b ⌝ }
+fn put_flat(b: [[u64; 4]; 4], words: &mut [u64])
+    requires { ⌜ length (now words) ≡ 16 ⌝ }
+    ensures { λ _. ⌜ now (words .exit) ≡ flat b ⌝ }
 {
-    let mut out = [0u64; 16];
     let mut p = 0;
     while p < 16 {
-        out[p] = b[p / 4][p % 4];
+        words[p] = b[p / 4][p % 4];
         p += 1;
     }
-    out
+}
+
+// The transform of sixteen words in writing.
+pub fn write_sixteen(size: u32, exact: bool, words: &mut [u64])
+    requires { ⌜ (1 ≤ size) × (size ≤ 64) × (length (now words) ≡ 16) ⌝ }
+    ensures { λ _. ⌜ now (words .exit) ≡ forward size exact 2 (now (words .entry)) ⌝ }
+{
+    let b = write_square(size, square_of(words), exact);
+    put_flat(b, words);
+}
+
+// And in reading.
+pub fn read_sixteen(size: u32, exact: bool, words: &mut [u64])
+    requires { ⌜ (1 ≤ size) × (size ≤ 64) × (length (now words) ≡ 16) ⌝ }
+    ensures { λ _. ⌜ now (words .exit) ≡ backward size exact 2 (now (words .entry)) ⌝ }
+{
+    let b = read_square(size, square_of(words), exact);
+    put_flat(b, words);
 }

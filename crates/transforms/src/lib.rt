@@ -5,7 +5,7 @@ use words::plus;
 ghost use mathlib.Core.Path.{_≡_};
 ghost use Prim.Native.Nat.{_≤_};
 ghost use Rattle.transforms.specs.Four.{lift, twiceLess, unlift, differ, undiffer, writing, reading};
-ghost use Rattle.transforms.specs.Calls.{onFour};
+ghost use Rattle.transforms.specs.Calls.{onFour, transformOf};
 
 // x+=w, halve x, w-=x; z+=y, halve z, y-=z; x+=z, halve x, z-=x; w+=y, halve w, y-=w; w+=y/2, y-=w/2.
 fn lift(size: u32, a: [u64; 4]) -> [u64; 4]
@@ -79,7 +79,7 @@ fn undiffer(size: u32, a: [u64; 4]) -> [u64; 4]
 }
 
 // The transform of a mode, in writing.
-pub fn write_four(size: u32, a: [u64; 4], exact: bool) -> [u64; 4]
+fn write_four(size: u32, a: [u64; 4], exact: bool) -> [u64; 4]
     requires { ⌜ (1 ≤ size) × (size ≤ 64) ⌝ }
     ensures { λ r. ⌜ r ≡ onFour (writing size exact) a ⌝ }
 {
@@ -91,7 +91,7 @@ pub fn write_four(size: u32, a: [u64; 4], exact: bool) -> [u64; 4]
 }
 
 // And in reading.
-pub fn read_four(size: u32, a: [u64; 4], exact: bool) -> [u64; 4]
+fn read_four(size: u32, a: [u64; 4], exact: bool) -> [u64; 4]
     requires { ⌜ (1 ≤ size) × (size ≤ 64) ⌝ }
     ensures { λ r. ⌜ r ≡ onFour (reading size exact) a ⌝ }
 {
@@ -99,5 +99,17 @@ pub fn read_four(size: u32, a: [u64; 4], exact: bool) -> [u64; 4]
         undiffer(size, a)
     } else {
         unlift(size, a)
+    }
+}
+
+// The transform of a mode, by direction.
+pub fn transform_four(size: u32, a: [u64; 4], exact: bool, back: bool) -> [u64; 4]
+    requires { ⌜ (1 ≤ size) × (size ≤ 64) ⌝ }
+    ensures { λ r. ⌜ r ≡ onFour (transformOf size exact back) a ⌝ }
+{
+    if back {
+        read_four(size, a, exact)
+    } else {
+        write_four(size, a, exact)
     }
 }
