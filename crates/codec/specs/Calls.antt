@@ -2,10 +2,11 @@
 pub mod Padded
 use mathlib.Core.Path.{_≡_}
 use mathlib.Core.Bool.{Bool, true, false, cond}
-use mathlib.Core.List.{List}
+use mathlib.Core.List.{List, [], _++_}
 use Prim.Native.Nat.{ℕ, _+_, _*_, _^_, _≤_, _<_}
 use lib.Ieee.{Format, ones}
 use lib.ListN.{length, getD}
+use Rattle.bits.specs.Stream.{numberBits}
 use Rattle.params.specs.Dimension.{Dimension}
 use Rattle.words.specs.Word.{flip}
 use Rattle.words.specs.Calls.{Size}
@@ -69,3 +70,8 @@ uncutCode f false false d p ws = lossyPlanes f d p ws
 uncutCode f true false d p ws = uncutFloats f d p ws
 uncutCode f false true d p ws = exactIntegers f d ws
 uncutCode f true true d p ws = exactFloats f d ws
+
+-- a block's form: what stands in front of its planes, as a number of so many bits, whether planes follow, and the integers ws′ that they are of
+pub record Formed (f : Format) (float exact : Bool) (ws ws′ : List ℕ) (head bits : ℕ) (planes : Bool) : Type 0 where
+  pub code : (d p : ℕ) → uncutCode f float exact d p ws ≡ numberBits bits head ++ cond planes (integersCode f exact d p ws′) []
+  pub short : bits ≤ 13

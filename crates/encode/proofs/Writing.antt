@@ -1,8 +1,10 @@
--- The code of a block of float patterns by its cases, as the writer goes through them.
-use mathlib.Core.Path.{_≡_, refl}
+-- The forms of a block, as the writer goes through them.
+use mathlib.Core.Path.{_≡_, refl, sym}
 use mathlib.Core.Bool.{Bool, true, false}
-use mathlib.Core.List.{List, [], _∷_, _++_, map}
-use Prim.Native.Nat.{ℕ}
+use mathlib.Core.List.{List, _∷_, map, append-nil}
+use Prim.Native.Nat.{ℕ, suc, _+_, _*_, _/_, _%_, _≤_}
+use native.Mathlib.Numerals.{add-one}
+use native.Mathlib.Omega.{arith}
 use lib.Ieee.{Format}
 use Rattle.bits.specs.declared.Cursor.{Cursor}
 use Rattle.bits.specs.Stream.{numberBits}
@@ -13,47 +15,65 @@ use Rattle.floats.specs.Pattern.{wordSize, fieldBits}
 use Rattle.floats.specs.Integer.{toInteger}
 use Rattle.float_blocks.specs.Block.{blockExponent, noMagnitude, allZero, allWhole}
 use Rattle.codec.specs.Code.{exactIntegers, exactFloats}
-use Rattle.codec.specs.Calls.{integersCode, uncutFloats, uncutCode}
-
--- e, then the integers at e
-pub scaled : {before mid after : List Bool} {limit k : ℕ} {out out₁ out₂ : Cursor} (f : Format) (exact : Bool) (d p e : ℕ) (ws : List ℕ) → k ≡ fieldBits f
-    → Written before mid out limit (numberBits k e) out₁ → Written mid after out₁ limit (integersCode f exact d p (map (toInteger f e) ws)) out₂
-    → Written before after out limit (numberBits (fieldBits f) e ++ integersCode f exact d p (map (toInteger f e) ws)) out₂
-scaled f exact d p e ws k r₁ r₂ = rw (← k) (written-append r₁ r₂)
+use Rattle.codec.specs.Calls.{integersCode, uncutFloats, uncutCode, Formed}
 
 -- a block of integers, by mode
-pub integers-uncut : (f : Format) (exact : Bool) (d p : ℕ) (ws : List ℕ) → integersCode f exact d p ws ≡ uncutCode f false exact d p ws
+integers-uncut : (f : Format) (exact : Bool) (d p : ℕ) (ws : List ℕ) → integersCode f exact d p ws ≡ uncutCode f false exact d p ws
 unfolding uncutCode exactIntegers
 integers-uncut f true d p ws = refl
 integers-uncut f false d p ws = refl
 
-module _ (f : Format) (d p : ℕ) (ws : List ℕ) where
-  pub exact-zero : allZero ws ≡ true → exactFloats f d ws ≡ false ∷ []
-  unfolding exactFloats
-  exact-zero h = rw h
+pub no-head : (f : Format) (exact : Bool) (ws : List ℕ) → Formed f false exact ws ws 0 0 true
+no-head f exact ws = record { code = λ d p. sym (integers-uncut f exact d p ws); short = omega arith }
 
-  pub lossy-zero : noMagnitude f ws ≡ true → uncutFloats f d p ws ≡ false ∷ []
-  unfolding uncutFloats
-  lossy-zero h = rw h
+-- a 1 and bits 1 0 in front of e, as one number
+one-first : (k e : ℕ) → numberBits (k + 1) (2 * e + 1) ≡ true ∷ numberBits k e
+one-first k e =
+    let odd : (2 * e + 1) % 2 ≡ 1 = omega arith in
+    let rest : (2 * e + 1) / 2 ≡ e = omega arith in
+    rw (add-one, odd, rest)
 
-  module _ (e : ℕ) (own : e ≡ blockExponent f ws) {before mid after : List Bool} {limit : ℕ} {out out₁ out₂ : Cursor} where
+zero-second : (k e : ℕ) → numberBits (k + 2) (4 * e + 1) ≡ true ∷ false ∷ numberBits k e
+zero-second k e =
+    let two : k + 2 ≡ suc (suc k) = omega arith in
+    let odd : (4 * e + 1) % 2 ≡ 1 = omega arith in
+    let rest : (4 * e + 1) / 2 ≡ 2 * e = omega arith in
+    let even : 2 * e % 2 ≡ 0 = omega arith in
+    let last : 2 * e / 2 ≡ e = omega arith in
+    rw (two, odd, rest, even, last)
+
+module _ (f : Format) (ws : List ℕ) where
+  pub exact-zero : allZero ws ≡ true → Formed f true true ws ws 0 1 false
+  unfolding uncutCode exactFloats
+  exact-zero h = record { code = λ d p. rw h; short = omega arith }
+
+  pub lossy-zero : noMagnitude f ws ≡ true → Formed f true false ws ws 0 1 false
+  unfolding uncutCode uncutFloats
+  lossy-zero h = record { code = λ d p. rw h; short = omega arith }
+
+  module _ (e : ℕ) (own : e ≡ blockExponent f ws) {k : ℕ} (field : k ≡ fieldBits f) (few : k ≤ 11) {ws′ : List ℕ} where
     -- a 1, then e and the integers
-    pub lossy-some : noMagnitude f ws ≡ false → Written before mid out limit (true ∷ []) out₁
-        → Written mid after out₁ limit (numberBits (fieldBits f) e ++ integersCode f false d p (map (toInteger f e) ws)) out₂
-        → Written before after out limit (uncutFloats f d p ws) out₂
-    unfolding uncutFloats
-    lossy-some h r₁ r₂ = rw (h, ← own) (written-append r₁ r₂)
+    pub lossy-some : noMagnitude f ws ≡ false → ws′ ≡ map (toInteger f e) ws → Formed f true false ws ws′ (2 * e + 1) (k + 1) true
+    unfolding uncutCode uncutFloats
+    lossy-some h made = record { code = λ d p. rw (h, ← own, made, one-first k e, field); short = omega arith }
 
     -- 1 0, then e and the integers
-    pub exact-whole : allZero ws ≡ false → allWhole f e ws ≡ true → Written before mid out limit (numberBits 2 1) out₁
-        → Written mid after out₁ limit (numberBits (fieldBits f) e ++ integersCode f true d p (map (toInteger f e) ws)) out₂
-        → Written before after out limit (exactFloats f d ws) out₂
-    unfolding exactFloats exactIntegers
-    exact-whole h k r₁ r₂ = rw (h, ← own, k) (written-append r₁ r₂)
+    pub exact-whole : allZero ws ≡ false → allWhole f e ws ≡ true → ws′ ≡ map (toInteger f e) ws → Formed f true true ws ws′ (4 * e + 1) (k + 2) true
+    unfolding uncutCode exactFloats exactIntegers
+    exact-whole h whole made = record { code = λ d p. rw (h, ← own, whole, made, zero-second k e, field); short = omega arith }
 
-    -- 1 1, then the flips
-    pub exact-raw : allZero ws ≡ false → allWhole f e ws ≡ false → Written before mid out limit (numberBits 2 3) out₁
-        → Written mid after out₁ limit (integersCode f true d p (map (flip (wordSize f)) ws)) out₂
-        → Written before after out limit (exactFloats f d ws) out₂
-    unfolding exactFloats exactIntegers
-    exact-raw h k r₁ r₂ = rw (h, ← own, k) (written-append r₁ r₂)
+  -- 1 1, then the flips
+  pub exact-raw : (e : ℕ) → e ≡ blockExponent f ws → {ws′ : List ℕ} → allZero ws ≡ false → allWhole f e ws ≡ false → ws′ ≡ map (flip (wordSize f)) ws
+      → Formed f true true ws ws′ 3 2 true
+  unfolding uncutCode exactFloats exactIntegers
+  exact-raw e own h whole made = record { code = λ d p. rw (h, ← own, whole, made); short = omega arith }
+
+-- the form's bits, and what follows them
+module _ {f : Format} {float exact planes : Bool} {ws ws′ : List ℕ} {head bits : ℕ} {before mid : List Bool} {limit : ℕ} {out out₁ : Cursor}
+    (d p : ℕ) (form : Formed f float exact ws ws′ head bits planes) where
+  pub with-planes : {after : List Bool} {out₂ : Cursor} → planes ≡ true → Written before mid out limit (numberBits bits head) out₁
+      → Written mid after out₁ limit (integersCode f exact d p ws′) out₂ → Written before after out limit (uncutCode f float exact d p ws) out₂
+  with-planes e r₁ r₂ = rw (form .code d p, e) (written-append r₁ r₂)
+
+  pub without-planes : planes ≡ false → Written before mid out limit (numberBits bits head) out₁ → Written before mid out limit (uncutCode f float exact d p ws) out₁
+  without-planes e r₁ = rw (form .code d p, e, append-nil (numberBits bits head)) r₁

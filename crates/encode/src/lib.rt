@@ -1,24 +1,18 @@
 // The code of a block, written below a limit; the cursor moves by the uncut length.
 ghost use mathlib.Core.Path.{_≡_};
 ghost use mathlib.Core.Bool.{true, false};
-ghost use mathlib.Core.List.{_++_, map};
 ghost use Prim.Native.Nat.{_*_, _^_, _≤_, _<_};
 ghost use lib.ListN.{length};
-ghost use Rattle.bits.specs.Stream.{numberBits, bitsOf};
+ghost use Rattle.bits.specs.Stream.{bitsOf};
 ghost use Rattle.bits.specs.Calls.{Written};
 ghost use Rattle.words.specs.Calls.{Size};
-ghost use Rattle.floats.specs.Pattern.{fieldBits};
 ghost use Rattle.floats.specs.Calls.{formatOf};
-ghost use Rattle.floats.specs.Integer.{toInteger};
 ghost use Rattle.float_blocks.specs.Block.{anySpecial};
-ghost use Rattle.codec.specs.declared.change.Change.the-variants.{ToInteger};
 ghost use Rattle.codec.specs.Head.{exactPlanes};
-ghost use Rattle.codec.specs.Calls.{Shape, changed, Ready, coefficientsCode, integersCode, uncutFloats, uncutCode};
-ghost use Rattle.codec.specs.Code.{exactFloats};
+ghost use Rattle.codec.specs.Calls.{Shape, coefficientsCode, integersCode, uncutCode, Formed};
 use bits::Cursor;
 use codec::change::Change;
-use codec::change::change_into;
-use codec::change::scratch;
+use codec::change::change_all;
 use codec::head::count_bits;
 use codec::head::field_bits;
 use codec::head::planes_needed;
@@ -56,194 +50,130 @@ fn put_coefficients(
     }
 }
 
-// A block of integers.
+// A block of integers, whose words are used up.
 fn put_integers(
     size: u32,
     exact: bool,
     d: u32,
     p: u32,
-    words: &[u64],
+    words: &mut [u64],
+    cs: &mut [u64],
     buf: &mut [u8],
     out: Cursor,
     limit: usize,
 ) -> Coded
-    requires { ⌜ Shape size d p (length (now words)) × (limit ≤ 8 * length (now buf)) × (out .at < 2 ^ 30) ⌝ }
+    requires { ⌜ Shape size d p (length (now words)) × (length (now cs) ≡ 4 ^ d) × (limit ≤ 8 * length (now buf)) × (out .at < 2 ^ 30) ⌝ }
     ensures { λ r. ⌜ Written (bitsOf (now (buf .entry))) (bitsOf (now (buf .exit))) out limit
         (integersCode (formatOf size) exact d p (now (words .entry))) (r .out) ⌝ }
 {
-    if d == 1 {
-        let cs = blocks::coefficients4(size, words, exact);
-        put_coefficients(size, exact, p, &cs, buf, out, limit)
-    } else {
-        let cs = blocks::coefficients16(size, words, exact);
-        put_coefficients(size, exact, p, &cs, buf, out, limit)
+    blocks::coefficients(size, exact, d, words, cs);
+    put_coefficients(size, exact, p, cs, buf, out, limit)
+}
+
+// What stands in front of a block's planes, as a number of so many bits, and whether planes follow.
+struct Form {
+    pub head: u32,
+    pub bits: usize,
+    pub planes: bool,
+}
+
+// The form of a block of finite float patterns in lossy mode; the words become its integers.
+fn form_lossy_floats(size: u32, words: &mut [u64]) -> Form
+    requires { ⌜ Size size × (anySpecial (formatOf size) (now words) ≡ false) ⌝ }
+    ensures { λ r. ⌜ Formed (formatOf size) true false (now (words .entry)) (now (words .exit)) (r .head) (r .bits) (r .planes) ⌝ }
+{
+    if float_blocks::no_magnitude(size, words) {
+        return Form {
+            head: 0,
+            bits: 1,
+            planes: false,
+        };
+    }
+    let e = float_blocks::block_exponent(size, words);
+    change_all(size, Change::ToInteger(e), words);
+    // A 1, then e.
+    Form {
+        head: 2 * e + 1,
+        bits: field_bits(size) + 1,
+        planes: true,
     }
 }
 
-// A block of words, each changed in the scratch words, as integers.
-fn put_changed_by(
-    size: u32,
-    exact: bool,
-    how: Change,
-    d: u32,
-    p: u32,
-    words: &[u64],
-    scratch: &mut [u64],
-    buf: &mut [u8],
-    out: Cursor,
-    limit: usize,
-) -> Coded
-    requires { ⌜ Shape size d p (length (now words)) × (length (now scratch) ≡ 4 ^ d) × Ready size how (now words)
-        × (limit ≤ 8 * length (now buf)) × (out .at < 2 ^ 30) ⌝ }
-    ensures { λ r. ⌜ Written (bitsOf (now (buf .entry))) (bitsOf (now (buf .exit))) out limit
-        (integersCode (formatOf size) exact d p (map (changed size how) (now (words .entry)))) (r .out) ⌝ }
-{
-    change_into(size, how, words, scratch);
-    put_integers(size, exact, d, p, scratch, buf, out, limit)
-}
-
-// The same, with scratch words of its own.
-fn put_changed(
-    size: u32,
-    exact: bool,
-    how: Change,
-    d: u32,
-    p: u32,
-    words: &[u64],
-    buf: &mut [u8],
-    out: Cursor,
-    limit: usize,
-) -> Coded
-    requires { ⌜ Shape size d p (length (now words)) × Ready size how (now words)
-        × (limit ≤ 8 * length (now buf)) × (out .at < 2 ^ 30) ⌝ }
-    ensures { λ r. ⌜ Written (bitsOf (now (buf .entry))) (bitsOf (now (buf .exit))) out limit
-        (integersCode (formatOf size) exact d p (map (changed size how) (now (words .entry)))) (r .out) ⌝ }
-{
-    let mut spare = scratch();
-    let n = words.len();
-    put_changed_by(
-        size,
-        exact,
-        how,
-        d,
-        p,
-        words,
-        &mut spare[..n],
-        buf,
-        out,
-        limit,
-    )
-}
-
-// e, then the block's integers at e.
-fn put_scaled(
-    size: u32,
-    exact: bool,
-    d: u32,
-    p: u32,
-    e: u32,
-    words: &[u64],
-    buf: &mut [u8],
-    out: Cursor,
-    limit: usize,
-) -> Coded
-    requires { ⌜ Shape size d p (length (now words)) × Ready size (ToInteger e) (now words)
-        × (limit ≤ 8 * length (now buf)) × (out .at < 2 ^ 29) ⌝ }
-    ensures { λ r. ⌜ Written (bitsOf (now (buf .entry))) (bitsOf (now (buf .exit))) out limit
-        (numberBits (fieldBits (formatOf size)) e
-        ++ integersCode (formatOf size) exact d p (map (toInteger (formatOf size) e) (now (words .entry)))) (r .out) ⌝ }
-{
-    let next = bits::put_number(buf, out, limit, e, field_bits(size));
-    put_changed(
-        size,
-        exact,
-        Change::ToInteger(e),
-        d,
-        p,
-        words,
-        buf,
-        next,
-        limit,
-    )
-}
-
-// A block of float patterns in exact mode.
-fn put_exact_floats(
-    size: u32,
-    d: u32,
-    p: u32,
-    words: &[u64],
-    buf: &mut [u8],
-    out: Cursor,
-    limit: usize,
-) -> Coded
-    requires { ⌜ Shape size d p (length (now words)) × (limit ≤ 8 * length (now buf)) × (out .at < 2 ^ 28) ⌝ }
-    ensures { λ r. ⌜ Written (bitsOf (now (buf .entry))) (bitsOf (now (buf .exit))) out limit
-        (exactFloats (formatOf size) d (now (words .entry))) (r .out) ⌝ }
+// The form of a block of float patterns in exact mode; the words become its integers.
+fn form_exact_floats(size: u32, words: &mut [u64]) -> Form
+    requires { ⌜ Size size ⌝ }
+    ensures { λ r. ⌜ Formed (formatOf size) true true (now (words .entry)) (now (words .exit)) (r .head) (r .bits) (r .planes) ⌝ }
 {
     if float_blocks::all_zero(words) {
-        let next = bits::put(buf, out, limit, false);
-        return Coded { out: next };
+        return Form {
+            head: 0,
+            bits: 1,
+            planes: false,
+        };
     }
     let e = float_blocks::block_exponent(size, words);
     if float_blocks::all_whole(size, e, words) {
-        // Bits 1 0.
-        let next = bits::put_number(buf, out, limit, 1, 2);
-        put_scaled(size, true, d, p, e, words, buf, next, limit)
-    } else {
-        // Bits 1 1.
-        let next = bits::put_number(buf, out, limit, 3, 2);
-        put_changed(size, true, Change::Flip, d, p, words, buf, next, limit)
+        change_all(size, Change::ToInteger(e), words);
+        // Bits 1 0, then e.
+        return Form {
+            head: 4 * e + 1,
+            bits: field_bits(size) + 2,
+            planes: true,
+        };
+    }
+    change_all(size, Change::Flip, words);
+    // Bits 1 1.
+    Form {
+        head: 3,
+        bits: 2,
+        planes: true,
     }
 }
 
-// A block of finite float patterns in lossy mode.
-fn put_lossy_floats(
-    size: u32,
-    d: u32,
-    p: u32,
-    words: &[u64],
-    buf: &mut [u8],
-    out: Cursor,
-    limit: usize,
-) -> Coded
-    requires { ⌜ Shape size d p (length (now words)) × (anySpecial (formatOf size) (now words) ≡ false)
-        × (limit ≤ 8 * length (now buf)) × (out .at < 2 ^ 28) ⌝ }
-    ensures { λ r. ⌜ Written (bitsOf (now (buf .entry))) (bitsOf (now (buf .exit))) out limit
-        (uncutFloats (formatOf size) d p (now (words .entry))) (r .out) ⌝ }
+// The form of a block, by kind and mode; the words become its integers.
+fn form_of(size: u32, float: bool, exact: bool, words: &mut [u64]) -> Form
+    requires { ⌜ Size size × (float ≡ true → exact ≡ false → anySpecial (formatOf size) (now words) ≡ false) ⌝ }
+    ensures { λ r. ⌜ Formed (formatOf size) float exact (now (words .entry)) (now (words .exit)) (r .head) (r .bits) (r .planes) ⌝ }
 {
-    if float_blocks::no_magnitude(size, words) {
-        let next = bits::put(buf, out, limit, false);
-        return Coded { out: next };
+    if !float {
+        return Form {
+            head: 0,
+            bits: 0,
+            planes: true,
+        };
     }
-    let e = float_blocks::block_exponent(size, words);
-    let first = bits::put(buf, out, limit, true);
-    put_scaled(size, false, d, p, e, words, buf, first, limit)
+    if exact {
+        form_exact_floats(size, words)
+    } else {
+        form_lossy_floats(size, words)
+    }
 }
 
-// The code of a block of 4^d words, by kind and mode, with p planes if it is lossy. A lossy block of floats has no exponent field of 255.
+// The code of a block of 4^d words, by kind and mode, with p planes if it is lossy; the words are used up. A lossy block of floats has no exponent field
+// of 255.
 pub fn put_block(
     size: u32,
     float: bool,
     exact: bool,
     d: u32,
     p: u32,
-    words: &[u64],
+    words: &mut [u64],
+    cs: &mut [u64],
     buf: &mut [u8],
     out: Cursor,
     limit: usize,
 ) -> Coded
-    requires { ⌜ Shape size d p (length (now words)) × (float ≡ true → exact ≡ false → anySpecial (formatOf size) (now words) ≡ false)
+    requires { ⌜ Shape size d p (length (now words)) × (length (now cs) ≡ 4 ^ d)
+        × (float ≡ true → exact ≡ false → anySpecial (formatOf size) (now words) ≡ false)
         × (limit ≤ 8 * length (now buf)) × (out .at < 2 ^ 28) ⌝ }
     ensures { λ r. ⌜ Written (bitsOf (now (buf .entry))) (bitsOf (now (buf .exit))) out limit
         (uncutCode (formatOf size) float exact d p (now (words .entry))) (r .out) ⌝ }
 {
-    if !float {
-        return put_integers(size, exact, d, p, words, buf, out, limit);
-    }
-    if exact {
-        put_exact_floats(size, d, p, words, buf, out, limit)
+    let f = form_of(size, float, exact, words);
+    let next = bits::put_number(buf, out, limit, f.head, f.bits);
+    if f.planes {
+        put_integers(size, exact, d, p, words, cs, buf, next, limit)
     } else {
-        put_lossy_floats(size, d, p, words, buf, out, limit)
+        Coded { out: next }
     }
 }
