@@ -17,9 +17,7 @@ ghost use Rattle.codec.specs.Read.{readCoefficients, readIntegers, scaledBy, re
 ghost use Rattle.codec.specs.Calls.Padded.{paddedPlanes, paddedMultiples, paddedFlipped, paddedFloats, paddedBlock};
 use codec::change::Change;
 use codec::change::change_all;
-use codec::change::change_into;
 use codec::change::copy;
-use codec::change::scratch;
 use codec::head::count_bits;
 use codec::head::field_bits;
 use plane_reader::clear;
@@ -49,7 +47,7 @@ fn read_coefficients(
     }
 }
 
-// A block of integers.
+// A block of integers, from its coefficients.
 fn read_integers(
     size: u32,
     exact: bool,
@@ -58,29 +56,20 @@ fn read_integers(
     buf: &[u8],
     at: usize,
     end: usize,
+    cs: &mut [u64],
     words: &mut [u64],
 ) -> bool
-    requires { ⌜ Shape size d p (length (now words)) × Range at (countBits (formatOf size)) end (length (now buf)) ⌝ }
+    requires { ⌜ Shape size d p (length (now words)) × (length (now cs) ≡ 4 ^ d) × Range at (countBits (formatOf size)) end (length (now buf)) ⌝ }
     ensures { λ r. ⌜ (now (words .exit) ≡ readIntegers (formatOf size) exact d p (slice at end (bitsOf (now (buf .entry)))))
         × (r ≡ (not exact || paddedPlanes (formatOf size) (4 ^ d) (slice at end (bitsOf (now (buf .entry)))))) ⌝ }
 {
-    if d == 1 {
-        let mut cs = [0u64; 4];
-        let padded = read_coefficients(size, exact, p, buf, at, end, &mut cs);
-        let v = blocks::values4(size, cs, exact);
-        copy(&v, words);
-        padded
-    } else {
-        let mut cs = [0u64; 16];
-        let padded = read_coefficients(size, exact, p, buf, at, end, &mut cs);
-        let v = blocks::values16(size, cs, exact);
-        copy(&v, words);
-        padded
-    }
+    let padded = read_coefficients(size, exact, p, buf, at, end, cs);
+    blocks::values(size, exact, d, cs, words);
+    padded
 }
 
-// e, then integers in the scratch words, whose patterns at e are the words; whether the bits are so coded.
-fn read_multiples_by(
+// e, then integers, which are kept in the other words, and whose patterns at e are the words; whether the bits are so coded.
+fn read_multiples(
     size: u32,
     d: u32,
     p: u32,
@@ -97,29 +86,10 @@ fn read_multiples_by(
 {
     let head = field_bits(size);
     let e = bits::get_number(buf, at, head);
-    let padded = read_integers(size, true, d, p, buf, at + head, end, ints);
-    change_into(size, Change::ToPattern(e), ints, words);
+    let padded = read_integers(size, true, d, p, buf, at + head, end, ints, words);
+    copy(words, ints);
+    change_all(size, Change::ToPattern(e), words);
     verify::multiples(size, e, ints, words) & padded
-}
-
-// The same, with scratch words of its own.
-fn read_multiples(
-    size: u32,
-    d: u32,
-    p: u32,
-    buf: &[u8],
-    at: usize,
-    end: usize,
-    words: &mut [u64],
-) -> bool
-    requires { ⌜ Shape size d p (length (now words))
-        × Range at (fieldBits (formatOf size) + countBits (formatOf size)) end (length (now buf)) ⌝ }
-    ensures { λ r. ⌜ (now (words .exit) ≡ scaledBy (formatOf size) (readIntegers (formatOf size) true d p) (slice at end (bitsOf (now (buf .entry)))))
-        × (r ≡ paddedMultiples (formatOf size) d p (slice at end (bitsOf (now (buf .entry))))) ⌝ }
-{
-    let mut ints = scratch();
-    let n = words.len();
-    read_multiples_by(size, d, p, buf, at, end, &mut ints[..n], words)
 }
 
 // Integers, which become their flips; whether the bits are so coded.
@@ -130,14 +100,15 @@ fn read_flipped(
     buf: &[u8],
     at: usize,
     end: usize,
+    cs: &mut [u64],
     words: &mut [u64],
 ) -> bool
-    requires { ⌜ Shape size d p (length (now words)) × Range at (countBits (formatOf size)) end (length (now buf)) ⌝ }
+    requires { ⌜ Shape size d p (length (now words)) × (length (now cs) ≡ 4 ^ d) × Range at (countBits (formatOf size)) end (length (now buf)) ⌝ }
     ensures { λ r. ⌜ (now (words .exit) ≡ map (flip (wordSize (formatOf size)))
         (readIntegers (formatOf size) true d p (slice at end (bitsOf (now (buf .entry))))))
         × (r ≡ paddedFlipped (formatOf size) d p (slice at end (bitsOf (now (buf .entry))))) ⌝ }
 {
-    let padded = read_integers(size, true, d, p, buf, at, end, words);
+    let padded = read_integers(size, true, d, p, buf, at, end, cs, words);
     change_all(size, Change::Flip, words);
     verify::others(size, words) & padded
 }
@@ -150,9 +121,10 @@ fn read_exact_floats(
     buf: &[u8],
     at: usize,
     end: usize,
+    cs: &mut [u64],
     words: &mut [u64],
 ) -> bool
-    requires { ⌜ Shape size d p (length (now words))
+    requires { ⌜ Shape size d p (length (now words)) × (length (now cs) ≡ 4 ^ d)
         × Range at (2 + fieldBits (formatOf size) + countBits (formatOf size)) end (length (now buf)) ⌝ }
     ensures { λ r. ⌜ (now (words .exit) ≡ readExactFloats (formatOf size) d p (slice at end (bitsOf (now (buf .entry)))))
         × (r ≡ paddedFloats (formatOf size) d p (slice at end (bitsOf (now (buf .entry))))) ⌝ }
@@ -162,9 +134,9 @@ fn read_exact_floats(
         return bits::no_ones(buf, at + 1, end);
     }
     if bits::get(buf, at + 1) {
-        read_flipped(size, d, p, buf, at + 2, end, words)
+        read_flipped(size, d, p, buf, at + 2, end, cs, words)
     } else {
-        read_multiples(size, d, p, buf, at + 2, end, words)
+        read_multiples(size, d, p, buf, at + 2, end, cs, words)
     }
 }
 
@@ -176,32 +148,42 @@ fn read_lossy_floats(
     buf: &[u8],
     at: usize,
     end: usize,
+    cs: &mut [u64],
     words: &mut [u64],
 )
-    requires { ⌜ Shape size d p (length (now words))
+    requires { ⌜ Shape size d p (length (now words)) × (length (now cs) ≡ 4 ^ d)
         × Range at (1 + fieldBits (formatOf size) + countBits (formatOf size)) end (length (now buf)) ⌝ }
     ensures { λ _. ⌜ now (words .exit) ≡ readLossyFloats (formatOf size) d p (slice at end (bitsOf (now (buf .entry)))) ⌝ }
 {
     if bits::get(buf, at) {
-        read_scaled(size, d, p, buf, at + 1, end, words);
+        read_scaled(size, d, p, buf, at + 1, end, cs, words);
     } else {
         clear(words);
     }
 }
 
 // e, then integers, which become patterns at e: a lossy block after its first bit.
-fn read_scaled(size: u32, d: u32, p: u32, buf: &[u8], at: usize, end: usize, words: &mut [u64])
-    requires { ⌜ Shape size d p (length (now words))
+fn read_scaled(
+    size: u32,
+    d: u32,
+    p: u32,
+    buf: &[u8],
+    at: usize,
+    end: usize,
+    cs: &mut [u64],
+    words: &mut [u64],
+)
+    requires { ⌜ Shape size d p (length (now words)) × (length (now cs) ≡ 4 ^ d)
         × Range at (fieldBits (formatOf size) + countBits (formatOf size)) end (length (now buf)) ⌝ }
     ensures { λ _. ⌜ now (words .exit) ≡ scaledBy (formatOf size) (readIntegers (formatOf size) false d p) (slice at end (bitsOf (now (buf .entry)))) ⌝ }
 {
     let head = field_bits(size);
     let e = bits::get_number(buf, at, head);
-    read_integers(size, false, d, p, buf, at + head, end, words);
+    read_integers(size, false, d, p, buf, at + head, end, cs, words);
     change_all(size, Change::ToPattern(e), words);
 }
 
-// The words of a block of dimension d, by kind and mode, from the bits of its slot: p planes if it is lossy.
+// The words of a block of dimension d, by kind and mode, from the bits of its slot: p planes if it is lossy. Its coefficients stand in other words.
 pub fn read_block(
     size: u32,
     float: bool,
@@ -211,20 +193,21 @@ pub fn read_block(
     buf: &[u8],
     at: usize,
     end: usize,
+    cs: &mut [u64],
     words: &mut [u64],
 ) -> bool
-    requires { ⌜ Shape size d p (length (now words))
+    requires { ⌜ Shape size d p (length (now words)) × (length (now cs) ≡ 4 ^ d)
         × Range at (2 + fieldBits (formatOf size) + countBits (formatOf size)) end (length (now buf)) ⌝ }
     ensures { λ r. ⌜ (now (words .exit) ≡ readCode (formatOf size) float exact d p (slice at end (bitsOf (now (buf .entry)))))
         × (r ≡ (not exact || paddedBlock (formatOf size) float d p (slice at end (bitsOf (now (buf .entry)))))) ⌝ }
 {
     if !float {
-        return read_integers(size, exact, d, p, buf, at, end, words);
+        return read_integers(size, exact, d, p, buf, at, end, cs, words);
     }
     if exact {
-        read_exact_floats(size, d, p, buf, at, end, words)
+        read_exact_floats(size, d, p, buf, at, end, cs, words)
     } else {
-        read_lossy_floats(size, d, p, buf, at, end, words);
+        read_lossy_floats(size, d, p, buf, at, end, cs, words);
         true
     }
 }

@@ -17,7 +17,7 @@ abbrev at-first : tie.After-get2 → tie.After-get
 at-first c = c .before .before
 
 abbrev entry : tie.After-get → tie.Start
-entry c = c .before .before .before
+entry c = c .before .before .before .before
 
 -- the slot is within the buffer
 fits : (c : tie.After-get) → entry c .args .end ≤ length (bitsOf (entry c .args .buf .now))
@@ -71,28 +71,34 @@ read-multiples-requires c κs = search needs
 same-length-2 : tie.Need-same-length-2
 same-length-2 c = search needs
 
-returns-2 : tie.Need-returns-2
-returns-2 c =
-    let read = c .before .before in
-    let second = read .before .before .before in
-    let bit = at-first second in
-    let a = entry bit .args in
-    exact-raw (formatOf (a .size)) (a .d) (a .p) (bitsOf (a .buf .now)) (a .at) (a .end) _ (fits bit) (bit .get .ensures)
-    _ (second .get2 .ensures) (omega arith) (not-false _ (second .before .if1 .left)) (read .before .before .if2 .taken)
-    (read .read-flipped .ensures .0)
-    (read .read-flipped .ensures .1)
-
 same-length-3 : tie.Need-same-length-3
 same-length-3 c = search needs
 
+returns-2 : tie.Need-returns-2
+returns-2 c =
+    let read = c .before .before .before .before in
+    let second = read .before .before .before .before in
+    let bit = at-first second in
+    let a = entry bit .args in
+    exact-raw (formatOf (a .size)) (a .d) (a .p) (bitsOf (a .buf .now)) (a .at) (a .end) _ (fits bit) (bit .get .ensures)
+    _ (second .get2 .ensures) (omega arith) (not-false _ (second .before .if1 .left)) (read .before .before .before .if2 .taken)
+    (read .read-flipped .ensures .0)
+    (read .read-flipped .ensures .1)
+
+same-length-4 : tie.Need-same-length-4
+same-length-4 c = search needs
+
+same-length-5 : tie.Need-same-length-5
+same-length-5 c = search needs
+
 returns-3 : tie.Need-returns-3
 returns-3 c =
-    let read = c .before .before in
-    let second = read .before .before .before in
+    let read = c .before .before .before .before in
+    let second = read .before .before .before .before in
     let bit = at-first second in
     let a = entry bit .args in
     exact-whole (formatOf (a .size)) (a .d) (a .p) (bitsOf (a .buf .now)) (a .at) (a .end) _ (fits bit) (bit .get .ensures)
-    _ (second .get2 .ensures) (omega arith) (not-false _ (second .before .if1 .left)) (read .before .before .if2 .left)
+    _ (second .get2 .ensures) (omega arith) (not-false _ (second .before .if1 .left)) (read .before .before .before .if2 .left)
     (read .read-multiples .ensures .0)
     (read .read-multiples .ensures .1)
 
@@ -113,6 +119,8 @@ read-exact-floats-spec =
     add-read-multiples
     read-multiples-requires
     same-length-2
-    returns-2
     same-length-3
+    returns-2
+    same-length-4
+    same-length-5
     returns-3)

@@ -19,11 +19,14 @@ others-requires c κs = search needs
 same-length : tie.Need-same-length
 same-length c = search needs
 
+same-length-2 : tie.Need-same-length-2
+same-length-2 c = search needs
+
 returns : tie.Need-returns
 returns c =
     let change = c .before .before .before .before in
-    let ints = change .before .before .before .before in
-    let a = ints .before .before .before .before .args in
+    let ints = change .before .before .before .before .before .before in
+    let a = ints .before .before .before .before .before .before .args in
     let f = formatOf (a .size) in
     let slot = slice (a .at) (a .end) (bitsOf (a .buf .now)) in
     let read = ints .read-integers .ensures in
@@ -33,4 +36,4 @@ returns c =
 pub read-flipped-spec : {M : Type 1} → statement M
 read-flipped-spec =
     tie.close
-    (tie.spec read-integers-requires change-all-requires others-requires same-length returns)
+    (tie.spec read-integers-requires change-all-requires others-requires same-length same-length-2 returns)

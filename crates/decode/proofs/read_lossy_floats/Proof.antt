@@ -12,7 +12,7 @@ use Rattle.decode.proofs.read_lossy_floats.Statement.{statement}
 use Rattle.decode.proofs.read_lossy_floats.Tie as tie
 
 abbrev entry : tie.After-get → tie.Start
-entry c = c .before .before .before
+entry c = c .before .before .before .before
 
 -- the slot is within the buffer
 fits : (c : tie.After-get) → entry c .args .end ≤ length (bitsOf (entry c .args .buf .now))
@@ -33,18 +33,21 @@ clear-requires c κs = search needs
 same-length : tie.Need-same-length
 same-length c = search needs
 
+same-length-2 : tie.Need-same-length-2
+same-length-2 c = search needs
+
 returns : tie.Need-returns
 returns c =
-    let read = c .before .before in
-    let branch = read .before .before in
+    let read = c .before .before .before .before in
+    let branch = read .before .before .before in
     let bit = branch .before in
     let a = entry bit .args in
     let bs = bitsOf (a .buf .now) in
     rw (lossy-some (formatOf (a .size)) (a .d) (a .p) bs (a .at) (a .end) _ (fits bit) (bit .get .ensures) (omega arith) (branch .if1 .taken))
     (read .read-scaled .ensures)
 
-same-length-2 : tie.Need-same-length-2
-same-length-2 c = search needs
+same-length-3 : tie.Need-same-length-3
+same-length-3 c = search needs
 
 returns-2 : tie.Need-returns-2
 returns-2 c =
@@ -66,6 +69,7 @@ read-lossy-floats-spec =
     read-scaled-requires
     clear-requires
     same-length
-    returns
     same-length-2
+    returns
+    same-length-3
     returns-2)

@@ -11,10 +11,10 @@ use Rattle.decode.proofs.read_scaled.Tie as tie
 
 -- e seen from the integers, and the entry from there
 abbrev at-exponent : tie.After-read-integers → tie.After-get-number
-at-exponent c = c .before .before
+at-exponent c = c .before .before .before
 
 abbrev entry : tie.After-read-integers → tie.Start
-entry c = at-exponent c .before .before .before .before
+entry c = at-exponent c .before .before .before .before .before
 
 field-bits-requires : tie.Need-field-bits-requires
 field-bits-requires c κs = search needs
@@ -30,7 +30,7 @@ read-integers-requires c κs = search needs
 
 change-all-requires : tie.Need-change-all-requires
 change-all-requires c κs =
-    let ints = c .before .before .before in
+    let ints = c .before .before .before .before .before in
     let get = at-exponent ints in
     let field = get .before .field-bits .ensures in
     let s = entry ints in
@@ -42,10 +42,13 @@ change-all-requires c κs =
 same-length : tie.Need-same-length
 same-length c = search needs
 
+same-length-2 : tie.Need-same-length-2
+same-length-2 c = search needs
+
 returns : tie.Need-returns
 returns c =
     let change = c .before .before in
-    let ints = change .before .before .before .before in
+    let ints = change .before .before .before .before .before .before in
     let get = at-exponent ints in
     let field = get .before .field-bits .ensures in
     let a = entry ints .args in
@@ -62,4 +65,5 @@ read-scaled-spec =
     read-integers-requires
     change-all-requires
     same-length
+    same-length-2
     returns)
