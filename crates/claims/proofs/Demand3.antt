@@ -17,7 +17,8 @@ use Rattle.params.specs.Dimension.{Dimension}
 use Rattle.params.specs.Width.{float, exact, wordCount, widthOf}
 use Rattle.params.specs.Rows.{first, parameterRows}
 use Rattle.slot_code.specs.Rules.{IsBlock, codeOf}
-use Rattle.slot_code.proofs.Exact.{in-order, exact-bound}
+use Rattle.order.proofs.Orders.{in-order}
+use Rattle.slot_code.proofs.Exact.{exact-bound}
 use Rattle.slots.specs.Outcome.{bitOutcome, storeOutcome}
 use Rattle.claims.specs.Demand3.{RefusesAsTooLong, PlanesBound, TakesIntegers, TakesFloats, StoreCount, BitCount, ListedCount, Demand3}
 use Rattle.lines.specs.Line.{blockWords}

@@ -3,3 +3,4 @@ pub mod SlotLaws
 pub mod Exact
 pub mod Garbage
 pub mod Readable
+pub mod Space
