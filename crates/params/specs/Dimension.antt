@@ -12,3 +12,7 @@ Dimension d = (1 ≤ d) × (d ≤ topDimension)
 -- N of the greatest dimension
 abbrev pub mostWords : ℕ
 mostWords = 4 ^ topDimension
+
+-- up to so many words a call takes its work space for few words
+abbrev pub fewWords : ℕ
+fewWords = 16

@@ -17,6 +17,9 @@ pub const TOP_DIMENSION: u32 = 2;
 
 pub const MOST_WORDS: usize = 1 << (2 * TOP_DIMENSION);
 
+// Up to so many words a call takes its work space for few words.
+pub const FEW_WORDS: usize = 16;
+
 // The widest slot, in bits and in whole bytes.
 pub const WIDEST: u32 = 1024;
 
