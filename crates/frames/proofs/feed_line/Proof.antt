@@ -24,7 +24,9 @@ answer-line-requires : tie.Need-answer-line-requires
 answer-line-requires c κs = search needs
 
 add-t18 : tie.Need-add-t18
-add-t18 c = omega (arith, c .before .before .before .before .before .before .before .if1 .taken)
+add-t18 c =
+    let a = c .before .before .before .before .before .before .before .before .before .before .before .before .before in
+    omega (arith, c .before .before .before .before .before .before .before .if1 .taken, a .fits, a .good)
 
 same-length : tie.Need-same-length
 same-length c = search needs
