@@ -27,7 +27,13 @@ pub struct End {
 }
 
 // The line that is held is answered from place `at` on; the place after that. What the array holds afterwards is left free.
-fn answer_line(s: Partial, line: &mut [u8; MOST_HELD], ended: bool, out: &mut [u8], at: usize) -> usize
+fn answer_line(
+    s: Partial,
+    line: &mut [u8; MOST_HELD],
+    ended: bool,
+    out: &mut [u8],
+    at: usize,
+) -> usize
     requires { ⌜ at + longestLine ≤ length (now out) ⌝ }
     ensures { λ r. ⌜ Put (now (out .entry)) (now (out .exit)) at (answerTo (stateOf s (now (line .entry))) ended) r ⌝ }
 {
@@ -85,7 +91,7 @@ fn feed_line(
 ) -> Taken
     requires { ⌜ (from < length (now piece)) × (at + longestLine ≤ length (now out)) ⌝ }
     ensures { λ r. ⌜ Fed (stateOf s (now (line .entry))) (leadingLine (drop from (now (piece .entry)))) (now (out .entry)) (now (out .exit)) at (r .made)
-            (stateOf (r .state) (now (line .exit)))
+        (stateOf (r .state) (now (line .exit)))
         × (r .used ≡ from + lineLength (drop from (now (piece .entry)))) ⌝ }
 {
     let end = newline_at(piece, from);
@@ -121,7 +127,7 @@ fn has_room(room: usize, made: usize) -> bool
 pub fn feed(s: Partial, line: &mut [u8; MOST_HELD], piece: &[u8], out: &mut [u8]) -> Taken
     ensures { λ r. ⌜ (r .used ≡ taken (stateOf s (now (line .entry))) (now (piece .entry)) (length (now (out .entry))))
         × Fed (stateOf s (now (line .entry))) (take (r .used) (now (piece .entry))) (now (out .entry)) (now (out .exit)) 0 (r .made)
-            (stateOf (r .state) (now (line .exit)))
+        (stateOf (r .state) (now (line .exit)))
         × (r .used ≤ length (now (piece .entry))) × (r .made ≤ length (now (out .exit))) ⌝ }
 {
     let mut state = s;

@@ -44,7 +44,7 @@ fn write_out(bytes: &[u8]) -> bool {
 // Some bytes of a piece go in, and what they give goes out. No byte is taken where the output failed.
 fn list_part(s: Partial, line: &mut [u8; MOST_HELD], piece: &[u8], out: &mut [u8]) -> Part
     ensures { λ r. ⌜ (stateOf (r .state) (now (line .exit)) ≡ run (stateOf s (now (line .entry)))
-            (take (taken (stateOf s (now (line .entry))) (now (piece .entry)) (length (now (out .entry)))) (now (piece .entry))) .state)
+        (take (taken (stateOf s (now (line .entry))) (now (piece .entry)) (length (now (out .entry)))) (now (piece .entry))) .state)
         × (0 < r .used → r .used ≡ taken (stateOf s (now (line .entry))) (now (piece .entry)) (length (now (out .entry))))
         × (r .used ≤ length (now (piece .entry))) ⌝ }
 {
@@ -98,7 +98,7 @@ fn failed() -> Next {
 // One read, and what came of it.
 fn read_once(s: Partial, line: &mut [u8; MOST_HELD], input: &mut [u8], out: &mut [u8]) -> Turn
     ensures { λ r. ⌜ (r .next ≡ Next.More
-            → (n : ℕ) × (stateOf (r .state) (now (line .exit)) ≡ run (stateOf s (now (line .entry))) (take n (now (input .exit))) .state))
+        → (n : ℕ) × (stateOf (r .state) (now (line .exit)) ≡ run (stateOf s (now (line .entry))) (take n (now (input .exit))) .state))
         × (r .next ≡ Next.Ended → stateOf (r .state) (now (line .exit)) ≡ stateOf s (now (line .entry))) ⌝ }
 {
     let got = libc::read(STDIN_FILENO, input);

@@ -80,7 +80,13 @@ fn join(line: &mut [u8], len: usize, piece: &[u8], from: usize, to: usize) -> us
 }
 
 // The bytes of a piece from one place to another join the line.
-pub fn hold_bytes(s: Partial, line: &mut [u8; MOST_HELD], piece: &[u8], from: usize, to: usize) -> Partial
+pub fn hold_bytes(
+    s: Partial,
+    line: &mut [u8; MOST_HELD],
+    piece: &[u8],
+    from: usize,
+    to: usize,
+) -> Partial
     requires { ⌜ (from ≤ to) × (to ≤ length (now piece)) ⌝ }
     ensures { λ r. ⌜ stateOf r (now (line .exit)) ≡ hold (stateOf s (now (line .entry))) (take (to - from) (drop from (now (piece .entry)))) ⌝ }
 {
