@@ -97,11 +97,12 @@ fn feed_line(
     let end = newline_at(piece, from);
     let held = partial_line::hold_bytes(s, line, piece, from, end);
     if end < piece.len() {
+        let used = end + 1;
         let next = next_line(held, line);
         let made = answer_line(held, line, true, out, at);
         return Taken {
             state: next,
-            used: end + 1,
+            used,
             made,
         };
     }
@@ -161,6 +162,7 @@ pub fn finish(s: Partial, line: &[u8; MOST_HELD], out: &mut [u8]) -> End
             made: 0,
         };
     }
+    // The last line is answered from a copy, since answering takes the line's bytes as work space.
     let mut last = *line;
     End {
         done: true,

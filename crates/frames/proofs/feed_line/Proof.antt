@@ -17,16 +17,14 @@ newline-at-requires c κs = search needs
 hold-bytes-requires : tie.Need-hold-bytes-requires
 hold-bytes-requires c κs = search needs
 
+add-used : tie.Need-add-used
+add-used c = search needs
+
 next-line-requires : tie.Need-next-line-requires
 next-line-requires c κs = search needs
 
 answer-line-requires : tie.Need-answer-line-requires
 answer-line-requires c κs = search needs
-
-add-t18 : tie.Need-add-t18
-add-t18 c =
-    let a = c .before .before .before .before .before .before .before .before .before .before .before .before .before in
-    omega (arith, c .before .before .before .before .before .before .before .if1 .taken, a .fits, a .good)
 
 same-length : tie.Need-same-length
 same-length c = search needs
@@ -69,9 +67,9 @@ feed-line-spec =
     (tie.spec
     newline-at-requires
     hold-bytes-requires
+    add-used
     next-line-requires
     answer-line-requires
-    add-t18
     same-length
     returns
     returns-2)
