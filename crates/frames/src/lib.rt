@@ -1,7 +1,8 @@
-// The listing of document 01, piece by piece: a state by value takes the input's bytes and gives the listing's into lent room.
+// The listing of document 01, piece by piece: a state by value, with an array lent for the line so far, takes the input's bytes and gives the listing's
+// into lent room.
 ghost use mathlib.Core.Path.{_≡_};
-ghost use mathlib.Core.List.{[]};
-ghost use Prim.Native.Nat.{_+_, _-_, _≤_, _<_};
+ghost use mathlib.Core.List.{List, []};
+ghost use Prim.Native.Nat.{ℕ, _+_, _-_, _≤_, _<_};
 ghost use lib.ListN.{length, take, drop};
 ghost use mathlib.Core.Bool.{cond};
 ghost use lib.Dec.{leb};
@@ -9,6 +10,7 @@ ghost use Rattle.lines.specs.Calls.{longestLine, Put};
 ghost use Rattle.partial_line.specs.Calls.{stateOf};
 ghost use Rattle.frames.specs.Calls.{answerTo, nextLine, beforeNewline, lineLength, leadingLine, taken, ending, Fed};
 use lines::LONGEST_LINE;
+use partial_line::MOST_HELD;
 use partial_line::Partial;
 
 // The state after some bytes, how many were taken, and how many were given.
@@ -24,38 +26,41 @@ pub struct End {
     pub made: usize,
 }
 
-// The line that is held is answered from place `at` on; the place after that.
-fn answer_line(s: Partial, ended: bool, out: &mut [u8], at: usize) -> usize
+// The line that is held is answered from place `at` on; the place after that. What the array holds afterwards is left free.
+fn answer_line(
+    s: Partial,
+    line: &mut [u8; MOST_HELD],
+    ended: bool,
+    out: &mut [u8],
+    at: usize,
+) -> usize
     requires { ⌜ at + longestLine ≤ length (now out) ⌝ }
-    ensures { λ r. ⌜ Put (now (out .entry)) (now (out .exit)) at (answerTo (stateOf s) ended) r ⌝ }
+    ensures { λ r. ⌜ Put (now (out .entry)) (now (out .exit)) at (answerTo (stateOf s (now (line .entry))) ended) r ⌝ }
 {
-    let bytes = s.line;
     if s.started {
-        lines::block_line(s.params, partial_line::held(&bytes, s.len), ended, out, at)
+        let len = bits::least(s.len, MOST_HELD);
+        lines::block_line(s.params, line, len, ended, out, at)
     } else {
-        lines::first_line(partial_line::held(&bytes, s.len), ended, out, at)
+        lines::first_line(partial_line::held(line, s.len), ended, out, at)
     }
 }
 
-// The state after the line that is held.
-fn next_line(s: Partial) -> Partial
-    ensures { λ r. ⌜ stateOf r ≡ nextLine (stateOf s) ⌝ }
+// The state after the line that is held, whatever the array holds then.
+fn next_line(s: Partial, line: &[u8; MOST_HELD]) -> Partial
+    ensures { λ r. ⌜ ((after : List ℕ) → stateOf r after ≡ nextLine (stateOf s (now (line .entry)))) ⌝ }
 {
-    let bytes = s.line;
     if s.started {
         let same = s.params;
         return Partial {
             started: true,
             params: same,
-            line: bytes,
             len: 0,
         };
     }
-    let params = lines::first_parameters(partial_line::held(&bytes, s.len), true);
+    let params = lines::first_parameters(partial_line::held(line, s.len), true);
     Partial {
         started: true,
         params,
-        line: bytes,
         len: 0,
     }
 }
@@ -76,24 +81,33 @@ fn newline_at(piece: &[u8], from: usize) -> usize
 }
 
 // The rest of a line, or of the piece if that ends before the line does.
-fn feed_line(s: Partial, piece: &[u8], from: usize, out: &mut [u8], at: usize) -> Taken
+fn feed_line(
+    s: Partial,
+    line: &mut [u8; MOST_HELD],
+    piece: &[u8],
+    from: usize,
+    out: &mut [u8],
+    at: usize,
+) -> Taken
     requires { ⌜ (from < length (now piece)) × (at + longestLine ≤ length (now out)) ⌝ }
-    ensures { λ r. ⌜ Fed (stateOf s) (leadingLine (drop from (now (piece .entry)))) (now (out .entry)) (now (out .exit)) at (r .made) (stateOf (r .state))
+    ensures { λ r. ⌜ Fed (stateOf s (now (line .entry))) (leadingLine (drop from (now (piece .entry)))) (now (out .entry)) (now (out .exit)) at (r .made)
+        (stateOf (r .state) (now (line .exit)))
         × (r .used ≡ from + lineLength (drop from (now (piece .entry)))) ⌝ }
 {
     let end = newline_at(piece, from);
-    let line = partial_line::hold_bytes(s, piece, from, end);
+    let held = partial_line::hold_bytes(s, line, piece, from, end);
     if end < piece.len() {
-        let made = answer_line(line, true, out, at);
-        let next = next_line(line);
+        let used = end + 1;
+        let next = next_line(held, line);
+        let made = answer_line(held, line, true, out, at);
         return Taken {
             state: next,
-            used: end + 1,
+            used,
             made,
         };
     }
     Taken {
-        state: line,
+        state: held,
         used: end,
         made: at,
     }
@@ -111,16 +125,17 @@ fn has_room(room: usize, made: usize) -> bool
 }
 
 // A piece of the input: its bytes are taken as long as there is room for the longest line, and what they give is put at the start of the room.
-pub fn feed(s: Partial, piece: &[u8], out: &mut [u8]) -> Taken
-    ensures { λ r. ⌜ (r .used ≡ taken (stateOf s) (now (piece .entry)) (length (now (out .entry))))
-        × Fed (stateOf s) (take (r .used) (now (piece .entry))) (now (out .entry)) (now (out .exit)) 0 (r .made) (stateOf (r .state))
+pub fn feed(s: Partial, line: &mut [u8; MOST_HELD], piece: &[u8], out: &mut [u8]) -> Taken
+    ensures { λ r. ⌜ (r .used ≡ taken (stateOf s (now (line .entry))) (now (piece .entry)) (length (now (out .entry))))
+        × Fed (stateOf s (now (line .entry))) (take (r .used) (now (piece .entry))) (now (out .entry)) (now (out .exit)) 0 (r .made)
+        (stateOf (r .state) (now (line .exit)))
         × (r .used ≤ length (now (piece .entry))) × (r .made ≤ length (now (out .exit))) ⌝ }
 {
     let mut state = s;
     let mut used = 0;
     let mut made = 0;
     while used < piece.len() && has_room(out.len(), made) {
-        let t = feed_line(state, piece, used, out, made);
+        let t = feed_line(state, line, piece, used, out, made);
         let next = t.state;
         state = next;
         used = t.used;
@@ -130,9 +145,9 @@ pub fn feed(s: Partial, piece: &[u8], out: &mut [u8]) -> Taken
 }
 
 // The end of the input: what is left is put at the start of the room, if there is room for the longest line.
-pub fn finish(s: Partial, out: &mut [u8]) -> End
+pub fn finish(s: Partial, line: &[u8; MOST_HELD], out: &mut [u8]) -> End
     ensures { λ r. ⌜ (r .done ≡ leb longestLine (length (now (out .entry))))
-        × Put (now (out .entry)) (now (out .exit)) 0 (cond (r .done) (ending (stateOf s)) []) (r .made)
+        × Put (now (out .entry)) (now (out .exit)) 0 (cond (r .done) (ending (stateOf s (now (line .entry)))) []) (r .made)
         × (r .made ≤ length (now (out .exit))) ⌝ }
 {
     if out.len() < LONGEST_LINE {
@@ -141,14 +156,16 @@ pub fn finish(s: Partial, out: &mut [u8]) -> End
             made: 0,
         };
     }
-    if partial_line::nothing_left(s) {
+    if partial_line::nothing_left(s, line) {
         return End {
             done: true,
             made: 0,
         };
     }
+    // The last line is answered from a copy, since answering takes the line's bytes as work space.
+    let mut last = *line;
     End {
         done: true,
-        made: answer_line(s, false, out, 0),
+        made: answer_line(s, &mut last, false, out, 0),
     }
 }

@@ -12,6 +12,7 @@ ghost use Rattle.frames.specs.Calls.{run, taken, ending};
 use libc::EINTR;
 use libc::STDIN_FILENO;
 use libc::STDOUT_FILENO;
+use partial_line::MOST_HELD;
 use partial_line::Partial;
 
 // What a turn found: more may come, the input ended, or the program stops.
@@ -41,12 +42,13 @@ fn write_out(bytes: &[u8]) -> bool {
 }
 
 // Some bytes of a piece go in, and what they give goes out. No byte is taken where the output failed.
-fn list_part(s: Partial, piece: &[u8], out: &mut [u8]) -> Part
-    ensures { λ r. ⌜ (stateOf (r .state)
-        ≡ run (stateOf s) (take (taken (stateOf s) (now (piece .entry)) (length (now (out .entry)))) (now (piece .entry))) .state)
-        × (0 < r .used → r .used ≡ taken (stateOf s) (now (piece .entry)) (length (now (out .entry)))) × (r .used ≤ length (now (piece .entry))) ⌝ }
+fn list_part(s: Partial, line: &mut [u8; MOST_HELD], piece: &[u8], out: &mut [u8]) -> Part
+    ensures { λ r. ⌜ (stateOf (r .state) (now (line .exit)) ≡ run (stateOf s (now (line .entry)))
+        (take (taken (stateOf s (now (line .entry))) (now (piece .entry)) (length (now (out .entry)))) (now (piece .entry))) .state)
+        × (0 < r .used → r .used ≡ taken (stateOf s (now (line .entry))) (now (piece .entry)) (length (now (out .entry))))
+        × (r .used ≤ length (now (piece .entry))) ⌝ }
 {
-    let t = frames::feed(s, piece, out);
+    let t = frames::feed(s, line, piece, out);
     let made = t.made;
     let state = t.state;
     if !write_out(&out[..made]) {
@@ -59,13 +61,14 @@ fn list_part(s: Partial, piece: &[u8], out: &mut [u8]) -> Part
 }
 
 // A whole piece, each byte of it once.
-fn list_piece(s: Partial, piece: &[u8], out: &mut [u8]) -> Turn
-    ensures { λ r. ⌜ (r .next ≡ Next.More → stateOf (r .state) ≡ run (stateOf s) (now (piece .entry)) .state) × (r .next ≡ Next.Ended → ⊥) ⌝ }
+fn list_piece(s: Partial, line: &mut [u8; MOST_HELD], piece: &[u8], out: &mut [u8]) -> Turn
+    ensures { λ r. ⌜ (r .next ≡ Next.More → stateOf (r .state) (now (line .exit)) ≡ run (stateOf s (now (line .entry))) (now (piece .entry)) .state)
+        × (r .next ≡ Next.Ended → ⊥) ⌝ }
 {
     let mut state = s;
     let mut at = 0;
     while at < piece.len() {
-        let p = list_part(state, &piece[at..], out);
+        let p = list_part(state, line, &piece[at..], out);
         let next = p.state;
         state = next;
         let used = p.used;
@@ -93,9 +96,10 @@ fn failed() -> Next {
 }
 
 // One read, and what came of it.
-fn read_once(s: Partial, input: &mut [u8], out: &mut [u8]) -> Turn
-    ensures { λ r. ⌜ (r .next ≡ Next.More → (n : ℕ) × (stateOf (r .state) ≡ run (stateOf s) (take n (now (input .exit))) .state))
-        × (r .next ≡ Next.Ended → r .state ≡ s) ⌝ }
+fn read_once(s: Partial, line: &mut [u8; MOST_HELD], input: &mut [u8], out: &mut [u8]) -> Turn
+    ensures { λ r. ⌜ (r .next ≡ Next.More
+        → (n : ℕ) × (stateOf (r .state) (now (line .exit)) ≡ run (stateOf s (now (line .entry))) (take n (now (input .exit))) .state))
+        × (r .next ≡ Next.Ended → stateOf (r .state) (now (line .exit)) ≡ stateOf s (now (line .entry))) ⌝ }
 {
     let got = libc::read(STDIN_FILENO, input);
     if got < 0 {
@@ -109,14 +113,15 @@ fn read_once(s: Partial, input: &mut [u8], out: &mut [u8]) -> Turn
         };
     }
     let n = io::count(got, input);
-    list_piece(s, &input[..n], out)
+    list_piece(s, line, &input[..n], out)
 }
 
 // The end of the input.
-fn end(s: Partial, out: &mut [u8])
-    ensures { λ r. ⌜ now (out .exit) ≡ sets (now (out .entry)) 0 (cond (leb longestLine (length (now (out .entry)))) (ending (stateOf s)) []) ⌝ }
+fn end(s: Partial, line: &[u8; MOST_HELD], out: &mut [u8])
+    ensures { λ r. ⌜ now (out .exit)
+        ≡ sets (now (out .entry)) 0 (cond (leb longestLine (length (now (out .entry)))) (ending (stateOf s (now (line .entry)))) []) ⌝ }
 {
-    let e = frames::finish(s, out);
+    let e = frames::finish(s, line, out);
     let made = e.made;
     write_out(&out[..made]);
 }
@@ -124,17 +129,18 @@ fn end(s: Partial, out: &mut [u8])
 // Turns until the input ends or the program stops; after a bad first line nothing more is read. A loop has to end and nothing says that the input
 // does, so turns are counted down from a number that no run uses up.
 fn list_all(input: &mut [u8], out: &mut [u8]) {
+    let mut line = [0u8; MOST_HELD];
     let mut state = partial_line::start();
     let mut turns = u64::MAX;
     while turns > 0 && !partial_line::stopped(state) {
-        let t = read_once(state, input, out);
+        let t = read_once(state, &mut line, input, out);
         let now = t.state;
         state = now;
         let next = t.next;
         match next {
             Next::More => {}
             Next::Ended => {
-                end(state, out);
+                end(state, &line, out);
                 return;
             }
             Next::Stop => return,

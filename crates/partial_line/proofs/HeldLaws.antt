@@ -7,7 +7,7 @@ use native.Mathlib.Omega.{arith}
 use lib.ListN.{length, take, drop, length-take, length-drop}
 use lib.Seq.{paste, take-all, take-take, length-take-le, take-paste, take-append-add}
 
-take-within : (line : List ℕ) (len n : ℕ) → n ≡ min len (length line) → take len line ≡ take n line
+pub take-within : (line : List ℕ) (len n : ℕ) → n ≡ min len (length line) → take len line ≡ take n line
 take-within line len n e = go (decLe len (length line))
   where
     go : Dec (len ≤ length line) → take len line ≡ take n line

@@ -20,9 +20,9 @@ pub record State : Type 0 where
 abbrev pub mostHeld : ℕ
 mostHeld = 8 * mostWords + 1
 
--- the state that a program's value stands for
-unfoldable pub stateOf : Partial → State
-stateOf s = record { started = s .started; params = s .params; held = take (s .len) (s .line) }
+-- the state that a program's value stands for, with the array that is lent beside it
+unfoldable pub stateOf : Partial → List ℕ → State
+stateOf s line = record { started = s .started; params = s .params; held = take (s .len) line }
 
 -- before the first piece
 abbrev pub start : State

@@ -1,7 +1,7 @@
-// What is kept between two pieces of the listing's input: the first line's parameters, and the line so far.
+// What is kept between two pieces of the listing's input: the first line's parameters, and the line so far in a lent array.
 ghost use mathlib.Core.Path.{_≡_};
-ghost use mathlib.Core.List.{_++_};
-ghost use Prim.Native.Nat.{_+_, _-_, _≤_};
+ghost use mathlib.Core.List.{List, _++_};
+ghost use Prim.Native.Nat.{ℕ, _+_, _-_, _≤_};
 ghost use lib.Dec.{eqb};
 ghost use lib.ListN.{length, take, drop};
 ghost use lib.Seq.{paste};
@@ -12,17 +12,16 @@ use params::Params;
 // How many bytes of a line are held: those of the longest well-formed line, eight digits a word, and one more.
 pub const MOST_HELD: usize = 8 * MOST_WORDS + 1;
 
-// Whether the first line is done, its parameters, and the bytes of the line so far.
+// Whether the first line is done, its parameters, and how many bytes of the lent array are the line so far.
 pub struct Partial {
     pub started: bool,
     pub params: Params,
-    pub line: [u8; MOST_HELD],
     pub len: usize,
 }
 
-// Before the first piece.
+// Before the first piece, whatever the array holds.
 pub fn start() -> Partial
-    ensures { λ r. ⌜ stateOf r ≡ start ⌝ }
+    ensures { λ r. ⌜ ((line : List ℕ) → stateOf r line ≡ start) ⌝ }
 {
     let params = Params {
         kind: 0,
@@ -34,14 +33,13 @@ pub fn start() -> Partial
     Partial {
         started: false,
         params,
-        line: [0u8; MOST_HELD],
         len: 0,
     }
 }
 
-// Whether the first line was bad: nothing more will be given.
+// Whether the first line was bad: nothing more will be given. That does not depend on the line so far.
 pub fn stopped(s: Partial) -> bool
-    ensures { λ r. ⌜ r ≡ stopped (stateOf s) ⌝ }
+    ensures { λ r. ⌜ ((line : List ℕ) → r ≡ stopped (stateOf s line)) ⌝ }
 {
     if s.started {
         params::rows::parameter_row(s.params) != 0
@@ -82,17 +80,21 @@ fn join(line: &mut [u8], len: usize, piece: &[u8], from: usize, to: usize) -> us
 }
 
 // The bytes of a piece from one place to another join the line.
-pub fn hold_bytes(s: Partial, piece: &[u8], from: usize, to: usize) -> Partial
+pub fn hold_bytes(
+    s: Partial,
+    line: &mut [u8; MOST_HELD],
+    piece: &[u8],
+    from: usize,
+    to: usize,
+) -> Partial
     requires { ⌜ (from ≤ to) × (to ≤ length (now piece)) ⌝ }
-    ensures { λ r. ⌜ stateOf r ≡ hold (stateOf s) (take (to - from) (drop from (now (piece .entry)))) ⌝ }
+    ensures { λ r. ⌜ stateOf r (now (line .exit)) ≡ hold (stateOf s (now (line .entry))) (take (to - from) (drop from (now (piece .entry)))) ⌝ }
 {
-    let mut bytes = s.line;
-    let len = join(&mut bytes, s.len, piece, from, to);
+    let len = join(line, s.len, piece, from, to);
     let params = s.params;
     Partial {
         started: s.started,
         params,
-        line: bytes,
         len,
     }
 }
@@ -104,12 +106,11 @@ fn empty(bytes: &[u8]) -> bool
 }
 
 // Whether the input ends after a line, other than the first.
-pub fn nothing_left(s: Partial) -> bool
-    ensures { λ r. ⌜ r ≡ nothingLeft (stateOf s) ⌝ }
+pub fn nothing_left(s: Partial, line: &[u8; MOST_HELD]) -> bool
+    ensures { λ r. ⌜ r ≡ nothingLeft (stateOf s (now (line .entry))) ⌝ }
 {
-    let bytes = s.line;
     if s.started {
-        empty(held(&bytes, s.len))
+        empty(held(line, s.len))
     } else {
         false
     }

@@ -1,24 +1,22 @@
 -- The first line has its own answer. Assumes nothing.
-use Rattle.partial_line.specs.Calls.{stateOf}
+use mathlib.Core.Path.{_≡_}
+use native.Mathlib.Omega.{arith}
+use lib.ListN.{length}
+use Rattle.partial_line.specs.Calls.{stateOf, mostHeld}
+use Rattle.partial_line.proofs.HeldLaws.{take-within}
 use Rattle.frames.specs.Calls.{answerTo}
 use borrow.Author.Needs.{needs}
 use Rattle.frames.proofs.answer_line.Statement.{statement}
 use Rattle.frames.proofs.answer_line.Tie as tie
 
-slice-aggregate-held : tie.Need-slice-aggregate-held
-slice-aggregate-held c = search needs
-
-held-requires : tie.Need-held-requires
-held-requires c κs = search needs
+least-requires : tie.Need-least-requires
+least-requires c κs = search needs
 
 block-line-requires : tie.Need-block-line-requires
 block-line-requires c κs = search needs
 
-slice-aggregate-held-2 : tie.Need-slice-aggregate-held-2
-slice-aggregate-held-2 c = search needs
-
-held-requires-2 : tie.Need-held-requires-2
-held-requires-2 c κs = search needs
+held-requires : tie.Need-held-requires
+held-requires c κs = search needs
 
 first-line-requires : tie.Need-first-line-requires
 first-line-requires c κs = search needs
@@ -30,8 +28,11 @@ returns : tie.Need-returns
 unfolding stateOf answerTo
 returns c =
     let answer = c .before .before in
-    let held = answer .before .before in
-    rw (held .before .before .if1 .taken, ← held .held .ensures) (answer .block-line .ensures)
+    let least = answer .before .before .before in
+    let a = least .before .before .before .args in
+    let k : length (a .line .now) ≡ mostHeld = omega arith in
+    let e = take-within (a .line .now) (a .s .len) (least .least .result) (rw k (least .least .ensures)) in
+    rw (least .before .if1 .taken, e) (answer .block-line .ensures)
 
 same-length-2 : tie.Need-same-length-2
 same-length-2 c = search needs
@@ -41,17 +42,15 @@ unfolding stateOf answerTo
 returns-2 c =
     let answer = c .before .before in
     let held = answer .before .before in
-    rw (held .before .before .if1 .left, ← held .held2 .ensures) (answer .first-line .ensures)
+    rw (held .before .before .before .if1 .left, ← held .held .ensures) (answer .first-line .ensures)
 
 pub answer-line-spec : {M : Type 1} → statement M
 answer-line-spec =
     tie.close
     (tie.spec
-    slice-aggregate-held
-    held-requires
+    least-requires
     block-line-requires
-    slice-aggregate-held-2
-    held-requires-2
+    held-requires
     first-line-requires
     same-length
     returns

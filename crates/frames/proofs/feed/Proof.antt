@@ -13,10 +13,11 @@ use Rattle.frames.proofs.feed.Statement.{statement}
 use Rattle.frames.proofs.feed.Tie as tie
 
 abbrev Inv-loop : tie.InvT-loop
-Inv-loop piece out₀ state₀ used₀ made₀ out state used made = Going (stateOf state₀) piece out₀ out (stateOf state) used made × (length out ≡ length out₀)
+Inv-loop line₀ piece out₀ state₀ used₀ made₀ line out state used made =
+    Going (stateOf state₀ line₀) piece out₀ out (stateOf state line) used made × (length out ≡ length out₀)
 
 abbrev μ-loop : tie.MeasureT-loop
-μ-loop piece out₀ state₀ used₀ made₀ out state used made = length piece - used
+μ-loop line₀ piece out₀ state₀ used₀ made₀ line out state used made = length piece - used
 
 loop-holds : tie.Need-loop-holds Inv-loop μ-loop
 loop-holds c = (going-start _ _ _, refl)
@@ -26,16 +27,16 @@ has-room-requires c κs = tt
 
 feed-line-requires : tie.Need-feed-line-requires Inv-loop μ-loop
 feed-line-requires c κs =
-    let l = c .before .before .before .before .loop in
-    let h = leb-true longestLine (length (l .out) - l .made) (sym (c .before .before .has-room .ensures) ∙ c .before .if1 .taken) in
+    let l = c .before .before .before .before .before .loop in
+    let h = leb-true longestLine (length (l .out) - l .made) (sym (c .before .before .before .has-room .ensures) ∙ c .before .before .if1 .taken) in
     (omega arith, omega arith)
 
 loop-less : tie.Need-loop-less Inv-loop μ-loop
 loop-less c =
     let line = c .before .before .before in
-    let test = line .before .before .before .before .loop-test in
-    let l = line .before .before .before .before .before .loop in
-    let piece = line .before .before .before .before .before .before .before .before .args .piece .now in
+    let test = line .before .before .before .before .before .loop-test in
+    let l = line .before .before .before .before .before .before .loop in
+    let piece = line .before .before .before .before .before .before .before .before .before .args .piece .now in
     let u = line .feed-line .ensures .1 in
     omega (arith, line-some (drop (l .used) piece) (simp length-drop (omega (arith, test .taken))), test .taken)
 
@@ -43,15 +44,15 @@ loop-again : tie.Need-loop-again Inv-loop μ-loop
 loop-again c =
     let line = c .before .before .before in
     let f = line .feed-line in
-    let room = line .before .before .before in
+    let room = line .before .before .before .before in
     let test = room .before .loop-test in
     let l = room .before .before .loop in
     let a = room .before .before .before .before .before .args in
     let d = drop (l .used) (a .piece .now) in
     let r : length (l .out) ≡ length (a .out .now) = l .inv .1 in
-    let e = rw r at (sym (room .has-room .ensures) ∙ line .before .before .if1 .taken) in
+    let e = rw r at (sym (room .has-room .ensures) ∙ line .before .before .before .if1 .taken) in
     let w : f .result .used ≤ length (a .piece .now) = omega (arith, f .ensures .1, line-within d, length-drop (l .used) (a .piece .now), test .taken) in
-    (going-line (l .inv .0) e (f .ensures .0) (f .ensures .1) w, f .kept .1 .1 .1 .0 ∙ l .inv .1)
+    (going-line (l .inv .0) e (f .ensures .0) (f .ensures .1) w, f .kept .1 .1 .1 .1 .0 ∙ l .inv .1)
 
 same-length : tie.Need-same-length Inv-loop μ-loop
 same-length c = search needs

@@ -17,40 +17,41 @@ newline-at-requires c κs = search needs
 hold-bytes-requires : tie.Need-hold-bytes-requires
 hold-bytes-requires c κs = search needs
 
-answer-line-requires : tie.Need-answer-line-requires
-answer-line-requires c κs = search needs
+add-used : tie.Need-add-used
+add-used c = search needs
 
 next-line-requires : tie.Need-next-line-requires
 next-line-requires c κs = search needs
 
-add-t14 : tie.Need-add-t14
-add-t14 c = search needs
+answer-line-requires : tie.Need-answer-line-requires
+answer-line-requires c κs = search needs
 
 same-length : tie.Need-same-length
 same-length c = search needs
 
 returns : tie.Need-returns
 returns c =
-    let held = c .before .before .before .before .before .before in
-    let end = held .before .newline-at in
-    let a = held .before .before .before .before .args in
+    let next = c .before .before .before .before .before in
+    let held = next .before .before .before in
+    let end = held .before .before .newline-at in
+    let a = held .before .before .before .before .before .args in
     let d = drop (a .from) (a .piece .now) in
-    let r = line-ended (stateOf (a .s)) d (simp length-drop (omega (arith, c .before .before .before .before .before .if1 .taken))) in
+    let r = line-ended (stateOf (a .s) (a .line .now)) d (simp length-drop (omega (arith, next .before .before .if1 .taken))) in
     let t : end .result - a .from ≡ beforeNewline d = omega (arith, end .ensures .0) in
     let q = rw t at (held .hold-bytes .ensures) in (
       record {
-        state = c .next-line .ensures ∙ rw q (sym (ap (λ (x : Ran). x .state) (r .1)));
-        output = rw (r .1, ← q) (c .before .before .before .answer-line .ensures);
+        state = next .next-line .ensures _ ∙ rw q (sym (ap (λ (x : Ran). x .state) (r .1)));
+        output = rw (r .1, ← q) (c .before .before .answer-line .ensures);
       },
-      omega arith,
+      omega (arith, end .ensures .0, r .0),
     )
 
 returns-2 : tie.Need-returns-2
 returns-2 c =
-    let end = c .before .before .newline-at in
-    let a = c .before .before .before .before .before .args in
+    let end = c .before .before .before .newline-at in
+    let a = c .before .before .before .before .before .before .args in
     let d = drop (a .from) (a .piece .now) in
-    let r = line-rest (stateOf (a .s)) d (simp length-drop (omega arith)) (simp length-drop (omega (arith, c .if1 .left))) in
+    let r = line-rest (stateOf (a .s) (a .line .now)) d (simp length-drop (omega arith)) (simp length-drop (omega (arith, c .if1 .left))) in
     let t : end .result - a .from ≡ beforeNewline d = omega (arith, end .ensures .0) in
     let q = rw t at (c .before .hold-bytes .ensures) in (
       record {
@@ -66,9 +67,9 @@ feed-line-spec =
     (tie.spec
     newline-at-requires
     hold-bytes-requires
-    answer-line-requires
+    add-used
     next-line-requires
-    add-t14
+    answer-line-requires
     same-length
     returns
     returns-2)

@@ -31,12 +31,13 @@ same-length c = search needs
 returns-3 : tie.Need-returns-3
 returns-3 c =
     let a = c .before .before .answer-line in
-    let some = c .before .before .before .before in
+    let some = c .before .before .before .before .before .before in
     let room = some .before .before in
-    let n = answer-length (stateOf (room .before .before .args .s)) false in (
+    let s = room .before .before .args in
+    let n = answer-length (stateOf (s .s) (s .line .now)) false in (
       sym (le-leb longestLine _ (room .if1 .left)),
       rw (sym (some .before .nothing-left .ensures) ∙ some .if2 .left) (a .ensures),
-      omega (arith, a .ensures .moved, n, a .kept .1 .1 .0, room .if1 .left),
+      omega (arith, a .ensures .moved, n, a .kept .1 .1 .1 .0, room .if1 .left),
     )
 
 pub finish-spec : {M : Type 1} → statement M

@@ -7,10 +7,7 @@ use Rattle.frames.proofs.next_line.Tie as tie
 
 returns : tie.Need-returns
 unfolding stateOf nextLine
-returns c = rw (c .before .if1 .taken)
-
-slice-aggregate-held : tie.Need-slice-aggregate-held
-slice-aggregate-held c = search needs
+returns c after = rw (c .before .if1 .taken)
 
 held-requires : tie.Need-held-requires
 held-requires c κs = search needs
@@ -20,9 +17,7 @@ first-parameters-requires c κs = search needs
 
 returns-2 : tie.Need-returns-2
 unfolding stateOf nextLine
-returns-2 c = rw (c .before .before .before .if1 .left, ← c .before .held .ensures, ← c .first-parameters .ensures)
+returns-2 c after = rw (c .before .before .before .if1 .left, ← c .before .held .ensures, ← c .first-parameters .ensures)
 
 pub next-line-spec : {M : Type 1} → statement M
-next-line-spec =
-    tie.close
-    (tie.spec returns slice-aggregate-held held-requires first-parameters-requires returns-2)
+next-line-spec = tie.close (tie.spec returns held-requires first-parameters-requires returns-2)

@@ -6,10 +6,10 @@ use Rattle.listing.proofs.list_all.Statement.{statement}
 use Rattle.listing.proofs.list_all.Tie as tie
 
 abbrev Inv-loop : tie.InvT-loop
-Inv-loop input₀ out₀ state₀ turns₀ input out state turns = (length input ≡ length input₀) × (length out ≡ length out₀)
+Inv-loop input₀ out₀ line₀ state₀ turns₀ input out line state turns = (length input ≡ length input₀) × (length out ≡ length out₀)
 
 abbrev μ-loop : tie.MeasureT-loop
-μ-loop input₀ out₀ state₀ turns₀ input out state turns = turns
+μ-loop input₀ out₀ line₀ state₀ turns₀ input out line state turns = turns
 
 start-requires : tie.Need-start-requires Inv-loop μ-loop
 start-requires c κs = tt

@@ -15,11 +15,11 @@ use Rattle.listing.proofs.list_piece.Statement.{statement}
 use Rattle.listing.proofs.list_piece.Tie as tie
 
 abbrev Inv-loop : tie.InvT-loop
-Inv-loop piece out₀ state₀ at₀ out state at =
-    (at ≤ length piece) × (length out ≡ length out₀) × (stateOf state ≡ run (stateOf state₀) (take at piece) .state)
+Inv-loop line₀ piece out₀ state₀ at₀ line out state at =
+    (at ≤ length piece) × (length out ≡ length out₀) × (stateOf state line ≡ run (stateOf state₀ line₀) (take at piece) .state)
 
 abbrev μ-loop : tie.MeasureT-loop
-μ-loop piece out₀ state₀ at₀ out state at = length piece - at
+μ-loop line₀ piece out₀ state₀ at₀ line out state at = length piece - at
 
 -- the bytes before a place, then some of those from it on
 run-on : (piece : List ℕ) (s t u : State) (at k used : ℕ) → t ≡ run s (take at piece) .state
@@ -68,16 +68,16 @@ loop-less c = omega arith
 loop-again : tie.Need-loop-again Inv-loop μ-loop
 loop-again c =
     let part = c .before .before .before .before .list-part in
-    let head = c .before .before .before .before .before .before .before .before in
+    let head = c .before .before .before .before .before .before .before .before .before in
     let l = head .loop in
     let a = head .before .before .before .args in
+    let t = stateOf (l .state) (l .line) in
     let rest = take (length (a .piece .now) - l .at) (drop (l .at) (a .piece .now)) in
-    let k = taken (stateOf (l .state)) rest (length (l .out)) in
     let w : part .result .used ≤ length rest = part .ensures .2 in (
       omega (arith, length-take (length (a .piece .now) - l .at) (drop (l .at) (a .piece .now))),
-      part .kept .1 .1 .0 ∙ l .inv .1,
-      run-on (a .piece .now) (stateOf (a .s)) (stateOf (l .state)) (stateOf (part .result .state)) (l .at) k (part .result .used)
-          (l .inv .2) (part .ensures .0) (part .ensures .1 (omega arith)),
+      part .kept .1 .1 .1 .0 ∙ l .inv .1,
+      run-on (a .piece .now) (stateOf (a .s) (a .line .now)) t (stateOf (part .result .state) (part .last .1 .0)) (l .at) (taken t rest (length (l .out)))
+          (part .result .used) (l .inv .2) (part .ensures .0) (part .ensures .1 (omega arith)),
     )
 
 same-length-2 : tie.Need-same-length-2 Inv-loop μ-loop

@@ -43,7 +43,7 @@ same-length-4 c = search needs
 returns-3 : tie.Need-returns-3
 returns-3 c =
     let e = c .before .before .list-piece .ensures in
-    (λ m. (c .before .before .before .before .before .count .result, e .0 m), λ m. absurd (e .1 m))
+    (λ m. (c .before .before .before .before .before .before .count .result, e .0 m), λ m. absurd (e .1 m))
 
 pub read-once-spec : {M : Type 1} → statement M
 read-once-spec =

@@ -9,21 +9,17 @@ use borrow.Author.Needs.{needs}
 use Rattle.partial_line.proofs.hold_bytes.Statement.{statement}
 use Rattle.partial_line.proofs.hold_bytes.Tie as tie
 
-slice-aggregate-join : tie.Need-slice-aggregate-join
-slice-aggregate-join c = search needs
-
 join-requires : tie.Need-join-requires
 join-requires c κs = search needs
 
 returns : tie.Need-returns
 unfolding stateOf hold
 returns c =
-    let a = c .before .before .before .before .before .before .args in
-    let j = c .before .before .join in
-    let k : length (a .s .line) ≡ mostHeld = omega arith in
+    let a = c .before .before .before .before .args in
+    let k : length (a .line .now) ≡ mostHeld = omega arith in
     ap (λ (h : List ℕ). record { started = a .s .started; params = a .s .params; held = h })
-    {y = take mostHeld (take (a .s .len) (a .s .line) ++ take (a .to - a .from) (drop (a .from) (a .piece .now)))}
-    (rw k at (j .ensures))
+    {y = take mostHeld (take (a .s .len) (a .line .now) ++ take (a .to - a .from) (drop (a .from) (a .piece .now)))}
+    (rw k at (c .before .join .ensures))
 
 pub hold-bytes-spec : {M : Type 1} → statement M
-hold-bytes-spec = tie.close (tie.spec slice-aggregate-join join-requires returns)
+hold-bytes-spec = tie.close (tie.spec join-requires returns)

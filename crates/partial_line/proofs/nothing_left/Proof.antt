@@ -4,9 +4,6 @@ use borrow.Author.Needs.{needs}
 use Rattle.partial_line.proofs.nothing_left.Statement.{statement}
 use Rattle.partial_line.proofs.nothing_left.Tie as tie
 
-slice-aggregate-held : tie.Need-slice-aggregate-held
-slice-aggregate-held c = search needs
-
 held-requires : tie.Need-held-requires
 held-requires c κs = search needs
 
@@ -22,5 +19,4 @@ unfolding nothingLeft stateOf
 returns-2 c = rw (c .if1 .left)
 
 pub nothing-left-spec : {M : Type 1} → statement M
-nothing-left-spec =
-    tie.close (tie.spec slice-aggregate-held held-requires empty-requires returns returns-2)
+nothing-left-spec = tie.close (tie.spec held-requires empty-requires returns returns-2)

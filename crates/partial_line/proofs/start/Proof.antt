@@ -6,7 +6,7 @@ use Rattle.partial_line.proofs.start.Tie as tie
 
 returns : tie.Need-returns
 unfolding stateOf
-returns c = refl
+returns c line = refl
 
 pub start-spec : {M : Type 1} → statement M
 start-spec = tie.close (tie.spec returns)

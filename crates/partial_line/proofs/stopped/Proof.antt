@@ -10,11 +10,11 @@ parameter-row-requires c κs = search needs
 
 returns : tie.Need-returns
 unfolding stopped stateOf
-returns c = rw (c .before .if1 .taken, c .parameter-row .ensures) refl
+returns c line = rw (c .before .if1 .taken, c .parameter-row .ensures) refl
 
 returns-2 : tie.Need-returns-2
 unfolding stopped stateOf
-returns-2 c = rw (c .if1 .left) refl
+returns-2 c line = rw (c .if1 .left) refl
 
 pub stopped-spec : {M : Type 1} → statement M
 stopped-spec = tie.close (tie.spec parameter-row-requires returns returns-2)
