@@ -10,7 +10,7 @@ const NAN: u32 = 0x7FC0_0000;
 /// Parameters with row 1, 2, .. 5 broken, and those rows after it.
 fn broken_from(row: u32) -> Params {
     let pick = |number: u32, good: u32, bad: u32| if number >= row { bad } else { good };
-    params(pick(1, 0, 2), pick(2, 1, 3), pick(3, 1, 2), pick(4, 32, 33), pick(5, 136, 1025))
+    params(pick(1, 0, 2), pick(2, 1, 5), pick(3, 1, 2), pick(4, 32, 33), pick(5, 136, 8_463))
 }
 
 fn store_refused(p: &Params, len: usize, slot: usize, words: &[u32], reply: Reply) {
@@ -43,17 +43,17 @@ fn each_parameter_has_its_row() {
         assert_eq!(bit_count(&Params { kind: bad, ..GOOD }, &[0; 4]), refused(1));
         assert_eq!(bit_count(&Params { mode: bad, ..GOOD }, &[0; 4]), refused(3));
     }
-    for bad in [0, 3, 4, u32::MAX] {
+    for bad in [0, 5, 6, u32::MAX] {
         assert_eq!(bit_count(&Params { dimension: bad, ..GOOD }, &[0; 4]), refused(2));
     }
     for mode in [LOSSY, EXACT] {
         for bad in [0, 33, u32::MAX] {
             assert_eq!(bit_count(&Params { mode, planes: bad, ..GOOD }, &[0; 4]), refused(4));
         }
-        for bad in [1, 15, 1025, u32::MAX] {
+        for bad in [1, 15, 8_463, u32::MAX] {
             assert_eq!(bit_count(&Params { mode, width: bad, ..GOOD }, &[0; 4]), refused(5));
         }
-        for good in [0, 16, 1024] {
+        for good in [0, 16, 1_025, 8_462] {
             assert_eq!(bit_count(&Params { mode, width: good, ..GOOD }, &[0; 4]).answer, 0);
         }
     }
