@@ -1,12 +1,15 @@
-//! The largest blocks in threads of just the stack that the interface and the header name.
+//! The largest blocks and runs in threads of just the stack that the interface and the header name.
 //!
 //! What a thread's stack holds before the call is part of it: the C library's own data of the thread and the calls of std,
 //! some 5 KB together. If the stack is too small the test ends by a signal, and std names the thread.
 
+use random::Random;
 use reference::{floats, transform};
 use std::thread;
 use testing::{EXACT, FLOATS, INTEGERS, LOSSY, by_hand};
-use windlassow::{MAX_WIDTH, Params, STACK_BYTES, bit_count, read, store};
+use windlassow::{
+    MAX_RUN_LEN, MAX_STREAM_LEN, MAX_WIDTH, Params, STACK_BYTES, bit_count, fpc_read, fpc_write, read, store,
+};
 
 /// Does this in a thread of that stack.
 fn in_a_small_thread<T: Send>(name: &str, call: impl FnOnce() -> T + Send) -> T {
@@ -80,6 +83,20 @@ fn stores_and_reads() {
         if mode == EXACT {
             assert_eq!(back, words);
         }
+    }
+}
+
+/// The longest runs, of patterns that no table predicts.
+#[test]
+fn fpc_runs() {
+    let mut random = Random::new(1);
+    let run: Vec<u64> = (0..MAX_RUN_LEN).map(|_| random.bits()).collect();
+    for size in [16, 1024] {
+        let (mut f, mut d) = (vec![0; size], vec![0; size]);
+        let (mut stream, mut back) = (vec![0; MAX_STREAM_LEN], vec![0; MAX_RUN_LEN]);
+        let bytes = in_a_small_thread("FPC write", || fpc_write(&mut f, &mut d, &run, &mut stream)).unwrap();
+        let doubles = in_a_small_thread("FPC read", || fpc_read(&mut f, &mut d, &stream[..bytes], &mut back));
+        assert_eq!((doubles, &back), (Ok(MAX_RUN_LEN), &run));
     }
 }
 

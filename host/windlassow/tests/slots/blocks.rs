@@ -6,16 +6,16 @@ use crate::make::*;
 use reference::{Params, transform};
 use testing::by_hand;
 
-/// Each width in one dimension after the other, each kind and mode in turn; those up to 33N + 14 of the two smaller
-/// dimensions more often.
+/// Each width in every dimension, with a kind and mode that are drawn; in the two smaller dimensions those up to 560 with all
+/// kinds and modes, and more often.
 #[test]
 fn every_width_kind_dimension_and_mode() {
     let mut random = Random::new(1);
     let mut answers = Answers::none();
     for width in all_widths() {
-        for (number, (kind, dimension, mode)) in all_kinds().enumerate() {
-            let is_turn = number as u32 % 4 == width % 4;
-            let count = if width <= 560 && dimension <= 2 { 6 } else { usize::from(is_turn) };
+        let drawn = (random.word_below(2), random.word_below(2));
+        for (kind, dimension, mode) in all_kinds() {
+            let count = if width <= 560 && dimension <= 2 { 6 } else { usize::from((kind, mode) == drawn) };
             for _ in 0..rounds(count) {
                 let p = Params { kind, dimension, mode, planes: any_planes(&mut random), width };
                 let slots = 1 + random.below(5);
