@@ -9,16 +9,20 @@
  *   The library keeps no pointer, has no state of its own and allocates nothing. Any numbers may
  *   be passed and any bytes may stand in a buffer: what does not fit is refused by an answer number.
  *
+ * Stack
+ *   No call takes more than WINDLASSOW_STACK_BYTES of stack. The most is taken by a store of 256
+ *   words: the library goes through a plane from one place to the next by calls within calls.
+ *
  * Answers
  *   If several refusals apply, the one of the lowest number is given, except that 23 comes before 22.
  *
  *    no.  meaning                                                              count
  *     0   done                                                                 see each call
  *     1   the kind is not 0 or 1                                               0
- *     2   the dimension is not 1 or 2                                          0
+ *     2   the dimension is not from 1 to 4                                     0
  *     3   the mode is not 0 or 1                                               0
  *     4   planes is not from 1 to 32                                           0
- *     5   width is neither 0 nor from 16 to 1,024                              0
+ *     5   width is neither 0 nor from 16 to 8,462                              0
  *     6   the archive is longer than 65,536 bytes                              0
  *     7   the archive has no slot of that number                               0
  *     8   the buffer of words has not the length of a block                    0
@@ -36,17 +40,19 @@
  *
  * Parameters of the slot calls
  *   kind       0: two's complement integers of 32 bits; 1: IEEE 754 binary32 patterns
- *   dimension  1: a block is 4 words; 2: a block is 16 words, four rows of four,
- *              the value of column i and row j at place i + 4j
+ *   dimension  1: a block is 4 words
+ *              2: 16 words, four rows of four, column i of row j at place i + 4j
+ *              3: 64 words, a cube of four squares, that of square k at place i + 4j + 16k
+ *              4: 256 words, four cubes in sequence, that of cube l at place i + 4j + 16k + 64l
  *   mode       0: lossy, the code is cut at the slot's end; 1: exact, the words come back bit for bit
  *   planes     the number of bit planes kept, 1 to 32; exact mode takes no other notice of it
  *   width      the bits W of a slot; 0 stands for 8 bits a word
  *   An archive is read with the parameters that it was written with.
  *
  * Limits
- *   words of a block, N           4 (dimension 1) or 16 (dimension 2)
+ *   words of a block, N           4, 16, 64, 256 in dimensions 1, 2, 3, 4
  *   planes, P                     1 to 32
- *   bits of a slot, W             16 to 1,024, or 0 for 8N
+ *   bits of a slot, W             16 to 8,462, or 0 for 8N
  *   bytes of an archive           65,536
  *   entries of an FPC table       a power of two from 16 to 1,024, the same for both
  *   doubles of a run              4,096
@@ -109,13 +115,16 @@ enum {
 enum {
     WINDLASSOW_MAX_PLANES = 32,
     WINDLASSOW_MIN_WIDTH = 16,
-    WINDLASSOW_MAX_WIDTH = 1024,
+    WINDLASSOW_MAX_WIDTH = 8462,
     WINDLASSOW_MAX_ARCHIVE_LEN = 65536,
     WINDLASSOW_MIN_TABLE_LEN = 16,
     WINDLASSOW_MAX_TABLE_LEN = 1024,
     WINDLASSOW_MAX_RUN_LEN = 4096,
     WINDLASSOW_MAX_STREAM_LEN = 65536
 };
+
+/* The bytes of stack that no call takes more of. */
+enum { WINDLASSOW_STACK_BYTES = 80 * 1024 };
 
 /* The words N of a block. */
 #define WINDLASSOW_BLOCK_LEN(dimension) (1 << (2 * (dimension)))

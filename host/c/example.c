@@ -35,6 +35,18 @@ static void slots(void) {
     print("read", windlassow_read(KIND, 1, MODE, PLANES, WIDTH, archive, 0, 0, back, 4));
 }
 
+/* Four cubes in sequence, all of one reading, in a slot that every such block fits. */
+static void cubes(void) {
+    enum { N = WINDLASSOW_BLOCK_LEN(4), W = WINDLASSOW_EXACT_INTEGERS_WIDTH(N) };
+    static uint8_t archive[(W + 7) / 8];
+    static uint32_t words[N], back[N];
+    for (size_t place = 0; place < N; place++) words[place] = 215;
+    print("store", windlassow_store(KIND, 4, MODE, PLANES, W, archive, sizeof archive, 0, words, N));
+    print("read", windlassow_read(KIND, 4, MODE, PLANES, W, archive, sizeof archive, 0, back, N));
+    printf("%d\n", memcmp(words, back, sizeof words) == 0);
+    print("bit_count", windlassow_bit_count(KIND, 5, MODE, PLANES, W, words, N));
+}
+
 static void fpc(void) {
     uint64_t f[16], d[16], back[2];
     const uint64_t run[2] = {0x3ff0000000000000, 0x3ff0000000000000};
@@ -54,6 +66,7 @@ static void fpc(void) {
 
 int main(void) {
     slots();
+    cubes();
     fpc();
     return 0;
 }

@@ -1,8 +1,9 @@
 //! A second implementation of the codec, in plain safe Rust.
 //!
-//! It was written from document 01 alone, apart from the proved one, so that a comparison of the two says
+//! It was written from the papers alone, apart from the proved one, so that a comparison of the two says
 //! something. It is written for clarity: bits are lists of `bool`, a slot is decoded and coded again to see
-//! whether it is a code, a stream likewise. Every module quotes the sentences of document 01 that it follows.
+//! whether it is a code, a stream likewise. Every module quotes the sentences that it follows: of document 01, and
+//! of request M-100 where it speaks of dimensions 3 and 4.
 //!
 //! The calls are [`store`], [`read`], [`slot_count`], [`bit_count`], [`fpc_write`], [`fpc_read`] and, for the
 //! listing program, [`listing()`]. The modules hold the pieces.

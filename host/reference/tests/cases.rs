@@ -6,12 +6,6 @@ use reference::{bit_count, fpc_read, fpc_write, listing, planes, read, words};
 
 const P3: [u32; 4] = [0xaaaaaaab, 0x55555556, 0xaaaaaaac, 0x55555558];
 
-fn starts_with(slot: &[bool], text: &str) {
-    let code = bits(text);
-    assert_eq!(slot[..code.len()], code[..], "code");
-    assert!(!slot[code.len()..].contains(&true), "padding");
-}
-
 #[test]
 fn p1_integer_zeros() {
     let (reply, slot) = stored(&params(INTEGERS, 1, EXACT, 32, 0x30), &[0; 4]);

@@ -38,13 +38,13 @@ fn bad_first_lines() {
 fn refused_first_lines_stop_the_program() {
     for (first, output) in [
         ("020000000001\n", "010000\n"),
-        ("010300000001\n", "020000\n"),
+        ("010500000001\n", "020000\n"),
         ("000102000001\n", "030000\n"),
         ("000101000001\n", "040000\n"),
         ("000100210030\n", "040000\n"),
         ("000101200001\n", "050000\n"),
         ("00010120000f\n", "050000\n"),
-        ("000101200401\n", "050000\n"),
+        ("00010120210f\n", "050000\n"),
         ("ffffffffffff\n", "010000\n"),
     ] {
         lists((first.to_string() + ONES).as_bytes(), output);
@@ -69,11 +69,22 @@ fn bad_block_lines_and_the_next_is_read() {
     ] {
         lists(&after_first((bad.to_string() + ONES).as_bytes()), &format!("0c0000\n{good}"));
     }
-    // The length of the other dimension is ill-formed too.
-    lists(&after_first(("0".repeat(128) + "\n").as_bytes()), "0c0000\n");
+    // The length of another dimension is ill-formed too.
+    for digits in [128, 512, 2_048] {
+        lists(&after_first(("0".repeat(digits) + "\n").as_bytes()), "0c0000\n");
+    }
     // A last line without its newline.
     lists(&after_first(ONES.trim_end().as_bytes()), "0c0000\n");
     lists(&after_first((ONES.to_string() + "0").as_bytes()), &format!("{good}0c0000\n"));
+}
+
+/// Zeros in every dimension: six bits of code in a slot of 16. A digit less or more is ill-formed.
+#[test]
+fn lines_of_every_dimension() {
+    for (dimension, digits) in [(1, 32), (2, 128), (3, 512), (4, 2_048)] {
+        let lines = [digits - 1, digits, digits + 1].map(|count| "0".repeat(count) + "\n").concat();
+        lists(format!("000{dimension}01200010\n{lines}").as_bytes(), "0c0000\n0000060000\n0c0000\n");
+    }
 }
 
 #[test]

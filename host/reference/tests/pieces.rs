@@ -16,8 +16,16 @@ fn halving_rounds_down() {
 
 #[test]
 fn the_order_is_document_01s_table() {
-    assert_eq!(transform::order(1), [0, 1, 2, 3]);
-    assert_eq!(transform::order(2), [0, 1, 4, 5, 2, 8, 6, 9, 3, 12, 10, 7, 13, 11, 14, 15]);
+    for dimension in 1..=4 {
+        let places = transform::order(dimension);
+        for (number, place) in by_hand::order(dimension) {
+            assert_eq!(places[number], place, "dimension {dimension}, number {number}");
+        }
+    }
+}
+
+#[test]
+fn every_place_has_its_number_in_the_order() {
     for dimension in 1..=4 {
         let mut places = transform::order(dimension);
         places.sort();
@@ -53,7 +61,7 @@ fn differences_are_binomial() {
 #[test]
 fn planes_come_back_and_meet_the_bound() {
     let mut random = Random::new(99);
-    for n in [4usize, 16, 64] {
+    for n in [4usize, 16, 64, 256] {
         for p in 1..=32 {
             for spread in 0..40 {
                 let block: Vec<u32> =

@@ -10,7 +10,7 @@ const NAN: u32 = 0x7FC0_0000;
 /// Parameters with row 1, 2, .. 5 broken, and those rows after it.
 fn broken_from(row: u32) -> Params {
     let pick = |number: u32, good: u32, bad: u32| if number >= row { bad } else { good };
-    params(pick(1, 0, 2), pick(2, 1, 3), pick(3, 1, 2), pick(4, 32, 33), pick(5, 136, 1025))
+    params(pick(1, 0, 2), pick(2, 1, 5), pick(3, 1, 2), pick(4, 32, 33), pick(5, 136, 8_463))
 }
 
 fn store_refused(p: &Params, len: usize, slot: usize, words: &[u32], reply: Reply) {
@@ -43,19 +43,39 @@ fn each_parameter_has_its_row() {
         assert_eq!(bit_count(&Params { kind: bad, ..GOOD }, &[0; 4]), refused(1));
         assert_eq!(bit_count(&Params { mode: bad, ..GOOD }, &[0; 4]), refused(3));
     }
-    for bad in [0, 3, 4, u32::MAX] {
+    for bad in [0, 5, 6, u32::MAX] {
         assert_eq!(bit_count(&Params { dimension: bad, ..GOOD }, &[0; 4]), refused(2));
     }
-    for mode in [LOSSY, EXACT] {
+    for (dimension, mode) in (1..=4).flat_map(|dimension| [(dimension, LOSSY), (dimension, EXACT)]) {
+        let (p, words) = (Params { dimension, mode, ..GOOD }, vec![0; 4usize.pow(dimension)]);
         for bad in [0, 33, u32::MAX] {
-            assert_eq!(bit_count(&Params { mode, planes: bad, ..GOOD }, &[0; 4]), refused(4));
+            assert_eq!(bit_count(&Params { planes: bad, ..p }, &words), refused(4));
         }
-        for bad in [1, 15, 1025, u32::MAX] {
-            assert_eq!(bit_count(&Params { mode, width: bad, ..GOOD }, &[0; 4]), refused(5));
+        for bad in [1, 15, 8_463, u32::MAX] {
+            assert_eq!(bit_count(&Params { width: bad, ..p }, &words), refused(5));
         }
-        for good in [0, 16, 1024] {
-            assert_eq!(bit_count(&Params { mode, width: good, ..GOOD }, &[0; 4]).answer, 0);
+        for good in [0, 16, 1_025, 8_462] {
+            assert_eq!(bit_count(&Params { width: good, ..p }, &words).answer, 0);
         }
+    }
+}
+
+/// The first row that applies, whatever else is bad.
+#[test]
+fn several_bad_at_once() {
+    for (p, row) in [
+        (params(2, 0, 2, 0, 15), 1),
+        (params(2, 4, 1, 32, 8_463), 1),
+        (params(0, 0, 2, 0, 8_463), 2),
+        (params(1, 5, 1, 33, 15), 2),
+        (params(0, 4, 2, 0, 8_463), 3),
+        (params(1, 3, 0, 0, 8_463), 4),
+        (params(1, 3, 1, 33, 15), 4),
+        (params(1, 4, 1, 32, 8_463), 5),
+        (params(0, 3, 0, 1, 15), 5),
+    ] {
+        store_refused(&p, 65_537, usize::MAX, &[NAN; 5], refused(row));
+        assert_eq!(bit_count(&p, &[NAN; 5]), refused(row));
     }
 }
 
@@ -75,7 +95,11 @@ fn rows_6_to_8_in_order() {
         read_refused(&GOOD, &[0xFF; 34], 1, len, refused(8));
         assert_eq!(bit_count(&GOOD, &vec![0; len]), refused(8));
     }
-    assert_eq!(bit_count(&Params { dimension: 2, ..GOOD }, &[0; 4]), refused(8));
+    // The words of another dimension.
+    for (dimension, other) in (1..=4).flat_map(|dimension| (1..=4).map(move |other| (dimension, other))) {
+        let answer = bit_count(&Params { dimension, ..GOOD }, &vec![0; 4usize.pow(other)]).answer;
+        assert_eq!(answer, if other == dimension { 0 } else { 8 });
+    }
 }
 
 #[test]

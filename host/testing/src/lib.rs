@@ -1,4 +1,7 @@
-//! What the tests of several packages use: document 01's numbers, guarded buffers, and a count of answers.
+//! What the tests of several packages use: document 01's numbers, guarded buffers, a count of answers, and what
+//! was worked out by hand.
+
+pub mod by_hand;
 
 use std::ops::{Deref, DerefMut};
 use std::path::{Path, PathBuf};

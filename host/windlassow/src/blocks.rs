@@ -65,6 +65,13 @@ fn check_kind<T: Value>(params: Params) -> Result<(), Refusal> {
 /// store_block(params, &mut archive, 0, &[36.6f32, 36.6, 36.7, 36.8])?;
 /// assert_eq!(read_block(params, &archive, 0), Ok([36.6f32, 36.6, 36.7, 36.8]));
 /// assert_eq!(read_block::<i32, 4>(params, &archive, 0), Err(Refusal::InvalidKind));
+///
+/// // A cube of 4 x 4 x 4 probes, a tenth of a degree colder with each square.
+/// let params = Params::exact_floats(Dimension::Three);
+/// let cube: [f32; 64] = std::array::from_fn(|place| [4.5, 4.4, 4.3, 4.2][place / 16]);
+/// let mut archive = vec![0; params.archive_len(1)?];
+/// store_block(params, &mut archive, 0, &cube)?;
+/// assert_eq!(read_block(params, &archive, 0), Ok(cube));
 /// # Ok::<(), Refusal>(())
 /// ```
 pub fn store_block<T: Value, const N: usize>(

@@ -1,8 +1,8 @@
 //! Blocks of readings in slots of equal width, and doubles in FPC streams.
 //!
 //! This is the Rust interface to a static library that is written and proved in Rattle. An archive is a byte
-//! buffer that the caller lends; it is cut into slots of W bits, and slot k starts at bit kW. A block is 4 or 16
-//! words of 32 bits, see [`Dimension`]. Words are integers (`value as u32`) or float patterns
+//! buffer that the caller lends; it is cut into slots of W bits, and slot k starts at bit kW. A block is 4, 16, 64 or
+//! 256 words of 32 bits, see [`Dimension`]. Words are integers (`value as u32`) or float patterns
 //! ([`f32::to_bits`]); [`store_block`], [`read_block`] and [`slots`] take and give `i32` and `f32`.
 //!
 //! ```
@@ -29,6 +29,8 @@
 //! A refused call changes no buffer, with one exception: [`fpc_write`] and [`fpc_read`] leave both tables zero
 //! with [`Refusal::OutputTooLong`] and [`Refusal::NotAStream`].
 //!
+//! A call needs [`STACK_BYTES`] of stack; that is to be seen to in threads with small ones.
+//!
 //! **Damage is not detected.** [`Refusal::NotACode`] and [`Refusal::NotAStream`] say that no block or run has these
 //! bits. A damaged slot or stream is often another block's or run's own code, and is then read without a sign. Who
 //! can lose bytes keeps a checksum beside them.
@@ -43,6 +45,12 @@ pub use params::{Dimension, Kind, Mode, Params};
 pub use refusal::Refusal;
 use refusal::outcome;
 
+/// The least bits of a slot; fewer are refused with [`Refusal::InvalidWidth`], but 0 stands for 8 bits a word.
+pub const MIN_WIDTH: u32 = 16;
+
+/// The most bits of a slot, which every block fits; more are refused with [`Refusal::InvalidWidth`].
+pub const MAX_WIDTH: u32 = 8_462;
+
 /// The most bytes of an archive; a longer one is refused with [`Refusal::ArchiveTooLong`].
 pub const MAX_ARCHIVE_LEN: usize = 65_536;
 
@@ -52,6 +60,10 @@ pub const MAX_RUN_LEN: usize = 4_096;
 /// The most bytes that [`fpc_read`] looks at; more are refused with [`Refusal::InputTooLong`]. No run has a stream of
 /// more than 34,816 bytes.
 pub const MAX_STREAM_LEN: usize = 65_536;
+
+/// The bytes of stack that no call takes more of. The most is taken by a store of 256 words: the library goes through a
+/// plane from one place to the next by calls within calls.
+pub const STACK_BYTES: usize = 80 * 1024;
 
 /// The README's example is compiled and run.
 #[cfg(doctest)]

@@ -1,6 +1,6 @@
 //! The parameters of a slot call.
 
-use crate::{MAX_ARCHIVE_LEN, Refusal};
+use crate::{MAX_ARCHIVE_LEN, MAX_WIDTH, MIN_WIDTH, Refusal};
 
 /// What the words of a block are.
 #[derive(Clone, Copy, Debug, PartialEq, Eq, Hash)]
@@ -18,6 +18,10 @@ pub enum Dimension {
     One,
     /// Four rows of four values; column i of row j is at place i + 4j.
     Two,
+    /// A cube of four squares; column i of row j of square k is at place i + 4j + 16k.
+    Three,
+    /// Four cubes, one after the other; what is at place i + 4j + 16k of cube l is at i + 4j + 16k + 64l.
+    Four,
 }
 
 /// Whether a block comes back bit for bit.
@@ -47,7 +51,7 @@ impl Kind {
 }
 
 impl Dimension {
-    /// N, the words of a block: 4 or 16.
+    /// N, the words of a block: 4, 16, 64 or 256.
     pub const fn block_len(self) -> usize {
         4usize.pow(self.number())
     }
@@ -56,6 +60,8 @@ impl Dimension {
         match self {
             Dimension::One => 1,
             Dimension::Two => 2,
+            Dimension::Three => 3,
+            Dimension::Four => 4,
         }
     }
 
@@ -63,6 +69,8 @@ impl Dimension {
         match number {
             1 => Ok(Dimension::One),
             2 => Ok(Dimension::Two),
+            3 => Ok(Dimension::Three),
+            4 => Ok(Dimension::Four),
             _ => Err(Refusal::InvalidDimension),
         }
     }
@@ -98,6 +106,7 @@ impl Mode {
 /// assert_eq!(exact.block_len(), Ok(4));
 /// assert_eq!(exact.slot_bits(), Ok(146));
 /// assert_eq!(exact.archive_len(1000), Ok(18_250));
+/// assert_eq!(Params::exact_floats(Dimension::Four).slot_bits(), Ok(8_462));
 ///
 /// let narrow = exact.with_width(0);
 /// assert_eq!((narrow.width(), narrow.slot_bits()), (0, Ok(32)));
@@ -151,7 +160,7 @@ impl Params {
         Params { kind, dimension, mode, planes, width }
     }
 
-    /// The same with another width in bits: 16 to 1,024, or 0 for 8 bits a word.
+    /// The same with another width in bits: [`MIN_WIDTH`] to [`MAX_WIDTH`], or 0 for 8 bits a word.
     pub const fn with_width(self, width: u32) -> Params {
         Params { width, ..self }
     }
@@ -172,7 +181,7 @@ impl Params {
     /// The dimension of a block.
     ///
     /// # Errors
-    /// [`Refusal::InvalidDimension`] if the number given is not 1 or 2.
+    /// [`Refusal::InvalidDimension`] if the number given is not from 1 to 4.
     pub const fn dimension(self) -> Result<Dimension, Refusal> {
         Dimension::from_number(self.dimension)
     }
@@ -198,7 +207,7 @@ impl Params {
     /// N, the words of a block.
     ///
     /// # Errors
-    /// [`Refusal::InvalidDimension`] if the dimension is not 1 or 2.
+    /// [`Refusal::InvalidDimension`] if the dimension is not from 1 to 4.
     pub const fn block_len(self) -> Result<usize, Refusal> {
         match self.dimension() {
             Ok(dimension) => Ok(dimension.block_len()),
@@ -209,13 +218,13 @@ impl Params {
     /// W, the bits of a slot: the width given, or 8N where that is 0.
     ///
     /// # Errors
-    /// [`Refusal::InvalidDimension`] if the dimension is not 1 or 2, [`Refusal::InvalidWidth`] if the width is neither
-    /// 0 nor from 16 to 1,024.
+    /// [`Refusal::InvalidDimension`] if the dimension is not from 1 to 4, [`Refusal::InvalidWidth`] if the width is
+    /// neither 0 nor from [`MIN_WIDTH`] to [`MAX_WIDTH`].
     pub const fn slot_bits(self) -> Result<usize, Refusal> {
         match (self.block_len(), self.width) {
             (Err(refusal), _) => Err(refusal),
             (Ok(n), 0) => Ok(8 * n),
-            (Ok(_), 16..=1024) => Ok(self.width as usize),
+            (Ok(_), MIN_WIDTH..=MAX_WIDTH) => Ok(self.width as usize),
             _ => Err(Refusal::InvalidWidth),
         }
     }

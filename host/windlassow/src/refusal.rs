@@ -14,13 +14,13 @@ use std::fmt::{self, Display, Formatter};
 pub enum Refusal {
     /// 1: the kind is not 0 or 1, or not the one that the call is for.
     InvalidKind,
-    /// 2: the dimension is not 1 or 2.
+    /// 2: the dimension is not from 1 to 4.
     InvalidDimension,
     /// 3: the mode is not 0 or 1.
     InvalidMode,
     /// 4: the number of planes is not from 1 to 32.
     InvalidPlanes,
-    /// 5: the width is neither 0 nor from 16 to 1,024.
+    /// 5: the width is neither 0 nor from 16 to 8,462.
     InvalidWidth,
     /// 6: the archive is longer than 65,536 bytes.
     ArchiveTooLong,
@@ -114,10 +114,10 @@ impl Refusal {
     const fn text(self) -> &'static str {
         match self {
             Refusal::InvalidKind => "the kind is not 0 or 1, or not the one that the call is for",
-            Refusal::InvalidDimension => "the dimension is not 1 or 2",
+            Refusal::InvalidDimension => "the dimension is not from 1 to 4",
             Refusal::InvalidMode => "the mode is not 0 or 1",
             Refusal::InvalidPlanes => "the number of planes is not from 1 to 32",
-            Refusal::InvalidWidth => "the width is neither 0 nor from 16 to 1,024",
+            Refusal::InvalidWidth => "the width is neither 0 nor from 16 to 8,462",
             Refusal::ArchiveTooLong => "the archive is longer than 65,536 bytes",
             Refusal::NoSuchSlot => "the archive has no slot of that number",
             Refusal::InvalidBlockLen => "the buffer of words has not the length of a block",

@@ -3,6 +3,7 @@
 use std::path::Path;
 use std::process::Command;
 use testing::repository;
+use windlassow::STACK_BYTES;
 
 const EXPECTED: &str = "\
 slot_count: answer 0, count 2
@@ -15,6 +16,10 @@ read: answer 0, count 4
 read: answer 11, count 0
 no block has the code of slot 0
 read: answer 7, count 0
+store: answer 0, count 47
+read: answer 0, count 256
+1
+bit_count: answer 2, count 0
 fpc_write: answer 0, count 9
 07000000000000f03f
 fpc_read: answer 0, count 2
@@ -23,6 +28,9 @@ fpc_read: answer 23, count 0
 fpc_write: answer 22, count 9
 fpc_write: answer 20, count 0
 ";
+
+// The 47 bits of 256 times 215: the first coefficient is 215, in negabinary 100101011. 5 bits of p - 1 = 31, planes 31 to 9
+// empty, a test, a bit and a test in plane 8, a bit and a test in each of the planes 7 to 0.
 
 /// Compiles the example in a language, links and runs it, and compares what it prints.
 fn run_as(language: &str, standard: &str) {
@@ -62,7 +70,8 @@ fn the_constants() {
     let compiles = |name: &str, more: &[&str]| {
         let object = Path::new(env!("CARGO_TARGET_TMPDIR")).join(name);
         let mut cc = Command::new("cc");
-        cc.args(["-std=c99", "-Wall", "-Wextra", "-pedantic", "-c"]).args(more).arg(&source).arg("-I");
+        cc.args(["-std=c99", "-Wall", "-Wextra", "-pedantic", "-c"]).args(more).arg(&source);
+        cc.arg(format!("-DRUST_STACK_BYTES={STACK_BYTES}")).arg("-I");
         let output = cc.arg(repository().join("include")).arg("-o").arg(object).output();
         output.expect("the C compiler 'cc' is on the PATH").status.success()
     };

@@ -1,16 +1,18 @@
 //! The parts of the Rust interface that are not calls of the library: parameters, lengths, blocks of values, texts.
 
 use windlassow::{
-    Dimension, Kind, MAX_ARCHIVE_LEN, MAX_RUN_LEN, MAX_STREAM_LEN, Mode, Params, Refusal, fpc_read,
-    fpc_write, read_block, slot_count, slots, store_block,
+    Dimension, Kind, MAX_ARCHIVE_LEN, MAX_RUN_LEN, MAX_STREAM_LEN, MAX_WIDTH, MIN_WIDTH, Mode, Params,
+    Refusal, Value, fpc_read, fpc_write, read_block, slot_count, slots, store_block,
 };
+
+const DIMENSIONS: [Dimension; 4] = [Dimension::One, Dimension::Two, Dimension::Three, Dimension::Four];
 
 #[test]
 fn parameters_are_shown_as_they_were_given() {
     let p = Params::new(Kind::Floats, Dimension::Two, Mode::Lossy, 20, 130);
     assert_eq!((p.kind(), p.dimension(), p.mode()), (Ok(Kind::Floats), Ok(Dimension::Two), Ok(Mode::Lossy)));
     assert_eq!((p.planes(), p.width(), p.block_len(), p.slot_bits()), (20, 130, Ok(16), Ok(130)));
-    let bad = Params::from_numbers(2, 3, 4, 33, 15);
+    let bad = Params::from_numbers(2, 5, 4, 33, 15);
     assert_eq!(bad.kind(), Err(Refusal::InvalidKind));
     assert_eq!(bad.dimension(), Err(Refusal::InvalidDimension));
     assert_eq!(bad.mode(), Err(Refusal::InvalidMode));
@@ -20,20 +22,30 @@ fn parameters_are_shown_as_they_were_given() {
     );
 }
 
+/// N, W for 0, and the widths that take every exact block of integers and of floats.
 #[test]
-fn the_width_0_is_8n() {
-    let p = |dimension, width| Params::lossy_integers(dimension, 32, width);
-    assert_eq!((p(Dimension::One, 0).width(), p(Dimension::One, 0).slot_bits()), (0, Ok(32)));
-    assert_eq!(p(Dimension::Two, 0).slot_bits(), Ok(128));
-    for (width, bits) in [(15, None), (16, Some(16)), (1024, Some(1024)), (1025, None), (u32::MAX, None)] {
-        assert_eq!(p(Dimension::One, width).slot_bits(), bits.ok_or(Refusal::InvalidWidth));
+fn lengths_and_widths_of_every_dimension() {
+    let numbers =
+        [(4, 32, 136, 146), (16, 128, 532, 542), (64, 512, 2_116, 2_126), (256, 2_048, 8_452, 8_462)];
+    for (number, (dimension, (n, zero, integers, floats))) in (1..).zip(DIMENSIONS.into_iter().zip(numbers)) {
+        let p = Params::from_numbers(0, number, 0, 32, 0);
+        assert_eq!((p.dimension(), p.block_len()), (Ok(dimension), Ok(n)));
+        assert_eq!(Params::lossy_integers(dimension, 32, 0), p);
+        assert_eq!((p.width(), p.slot_bits()), (0, Ok(zero)));
+        assert_eq!(Params::exact_integers(dimension).slot_bits(), Ok(integers));
+        assert_eq!(Params::exact_floats(dimension).slot_bits(), Ok(floats));
+        for (width, bits) in
+            [(15, None), (16, Some(16)), (8_462, Some(8_462)), (8_463, None), (u32::MAX, None)]
+        {
+            assert_eq!(p.with_width(width).slot_bits(), bits.ok_or(Refusal::InvalidWidth));
+        }
     }
 }
 
 /// The length has just that many slots, and a byte less has fewer, up to the longest archive.
 #[test]
 fn an_archive_has_the_slots_that_its_length_was_asked_for() {
-    for width in [0, 16, 17, 19, 48, 146, 1023, 1024] {
+    for width in [0, 16, 17, 19, 48, 146, 1024, 2126, 8461, 8462] {
         let p = Params::exact_floats(Dimension::One).with_width(width);
         let most = 8 * MAX_ARCHIVE_LEN / p.slot_bits().unwrap();
         for slots in [1, 2, 3, 7, 100, most - 1, most].into_iter().filter(|&slots| slots <= most) {
@@ -51,6 +63,11 @@ fn an_archive_has_the_slots_that_its_length_was_asked_for() {
 #[test]
 fn the_limits_are_the_librarys() {
     let p = Params::exact_floats(Dimension::One);
+    for (width, is_good) in
+        [(MIN_WIDTH - 1, false), (MIN_WIDTH, true), (MAX_WIDTH, true), (MAX_WIDTH + 1, false)]
+    {
+        assert_eq!(slot_count(p.with_width(width), &[]).is_ok(), is_good, "width {width}");
+    }
     assert!(slot_count(p, &vec![0; MAX_ARCHIVE_LEN]).is_ok());
     assert_eq!(slot_count(p, &vec![0; MAX_ARCHIVE_LEN + 1]), Err(Refusal::ArchiveTooLong));
     let (mut f, mut d, mut out) = ([0; 16], [0; 16], vec![0; 34_816]);
@@ -74,13 +91,28 @@ fn blocks_of_floats_come_back_bit_for_bit() {
     }
 }
 
-#[test]
-fn blocks_of_integers_come_back() {
-    let p = Params::exact_integers(Dimension::Two);
+/// In the only slot of an archive.
+fn comes_back<T: Value + PartialEq + std::fmt::Debug, const N: usize>(p: Params, block: [T; N]) {
     let mut archive = vec![0; p.archive_len(1).unwrap()];
-    let block: [i32; 16] = std::array::from_fn(|place| (place as i32 - 8) * 0x0FFF_FFFF);
     store_block(p, &mut archive, 0, &block).unwrap();
     assert_eq!(read_block(p, &archive, 0), Ok(block));
+    assert_eq!(slots(p, &archive).unwrap().collect::<Vec<_>>(), [Ok(block)]);
+}
+
+#[test]
+fn blocks_of_every_dimension_come_back() {
+    fn integer(place: usize) -> i32 {
+        (place as i32 - 8).wrapping_mul(0x0FFF_FFFF)
+    }
+    fn float(place: usize) -> f32 {
+        21.5 - place as f32 / 10.0
+    }
+    comes_back(Params::exact_integers(Dimension::One), std::array::from_fn::<_, 4, _>(integer));
+    comes_back(Params::exact_integers(Dimension::Two), std::array::from_fn::<_, 16, _>(integer));
+    comes_back(Params::exact_integers(Dimension::Three), std::array::from_fn::<_, 64, _>(integer));
+    comes_back(Params::exact_integers(Dimension::Four), std::array::from_fn::<_, 256, _>(integer));
+    comes_back(Params::exact_floats(Dimension::Three), std::array::from_fn::<_, 64, _>(float));
+    comes_back(Params::exact_floats(Dimension::Four), std::array::from_fn::<_, 256, _>(float));
 }
 
 #[test]

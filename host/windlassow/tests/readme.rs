@@ -1,9 +1,8 @@
 //! The pictures of README.md say what the library does. (Its Rust example is run with the documentation's examples.)
 
-use reference::transform::order;
 use std::fs;
-use testing::{bits, repository};
-use windlassow::{Dimension, Params, fpc_write, read_block, store_block};
+use testing::{bits, by_hand, repository};
+use windlassow::{Dimension, Params, STACK_BYTES, fpc_write, read_block, store_block};
 
 /// The lines of the block of text that follows a sentence which begins like this.
 fn picture(sentence: &str) -> Vec<String> {
@@ -54,16 +53,26 @@ fn a_scan_cut_at_the_last_place_and_before_it() {
     assert_eq!(blocks, [[a, -5 * a, 5 * a, -a], [0; 4]]);
 }
 
-/// The reference's order is compared with document 01's in its own tests.
+/// A row of a picture shows the numbers of a row of each square.
 #[test]
 fn the_order_of_coefficients() {
-    let lines = picture("The order in which the 16 coefficients");
-    let numbers =
-        |line: &String| line.split_whitespace().skip(3).map(|number| number.parse().unwrap()).collect();
-    let rows: Vec<Vec<usize>> = lines[1..].iter().map(numbers).collect();
-    for (number, place) in order(2).into_iter().enumerate() {
-        assert_eq!(rows[place / 4][place % 4], number, "place {place}");
+    for (dimension, sentence) in [(2, "The order in which the 16"), (3, "The same of the 64 coefficients")] {
+        let lines = picture(sentence);
+        let numbers =
+            |line: &String| line.split_whitespace().skip(3).map(|number| number.parse().unwrap()).collect();
+        let rows: Vec<Vec<usize>> =
+            lines.iter().filter(|line| line.starts_with("j = ")).map(numbers).collect();
+        for (number, place) in by_hand::order(dimension) {
+            let [i, j, k, _] = by_hand::indices(place);
+            assert_eq!(rows[j][4 * k + i], number, "dimension {dimension}, place {place}");
+        }
     }
+}
+
+#[test]
+fn the_stack_of_a_call() {
+    let page = fs::read_to_string(repository().join("README.md")).expect("the page is there");
+    assert!(page.contains(&format!("\n| stack of a call | {} KiB at most", STACK_BYTES / 1024)));
 }
 
 #[test]

@@ -116,8 +116,8 @@ fn params([kind, dimension, mode, planes, width]: [u32; 5]) -> Params {
 /// Good parameters of each kind, dimension and mode, with the dimension.
 fn good() -> Vec<(u32, Params, String)> {
     let mut all = Vec::new();
-    for number in 0..8 {
-        let (kind, dimension, mode) = (number & 1, 1 + (number >> 1 & 1), number >> 2);
+    for number in 0..16 {
+        let (kind, mode, dimension) = (number & 1, number >> 1 & 1, 1 + (number >> 2));
         let what = format!("kind {kind}, dimension {dimension}, mode {mode}");
         all.push((dimension, params([kind, dimension, mode, 32, 0]), what));
     }
@@ -132,13 +132,13 @@ fn bad() -> Vec<(u32, Params)> {
             all.push((1, params([many, 1, mode, 32, 0])));
             all.push((3, params([kind, 1, many, 32, 0])));
         }
-        for dimension in [0, 3, u32::MAX] {
+        for dimension in [0, 5, u32::MAX] {
             all.push((2, params([kind, dimension, mode, 32, 0])));
         }
         for planes in [0, 33, u32::MAX] {
             all.push((4, params([kind, 1, mode, planes, 0])));
         }
-        for width in [1, 15, 1025, u32::MAX] {
+        for width in [1, 15, 8_463, u32::MAX] {
             all.push((5, params([kind, 1, mode, 32, width])));
         }
     }
@@ -148,7 +148,7 @@ fn bad() -> Vec<(u32, Params)> {
 #[test]
 fn a_refused_store() {
     let mut slow = Slow::default();
-    let (mut archive, mut small) = (huge_archive(), [0; 64]);
+    let (mut archive, mut small) = (huge_archive(), [0; 256]);
     for (number, p) in bad() {
         let words = huge_words(1);
         slow.refused(number, &format!("store, bad parameters {p:?}"), || store(p, &mut archive, 0, &words));
@@ -158,7 +158,7 @@ fn a_refused_store() {
         let block = &words[..4usize.pow(dimension)];
         slow.refused(6, &format!("store, {what}, huge archive"), || store(p, &mut archive, 0, block));
         slow.refused(6, &format!("store, {what}, both huge"), || store(p, &mut archive, 0, &words));
-        for slot in [16, 1 << 32, usize::MAX] {
+        for slot in [64, 1 << 32, usize::MAX] {
             slow.refused(7, &format!("store, {what}, slot {slot}"), || store(p, &mut small, slot, &words));
         }
         slow.refused(8, &format!("store, {what}, huge words"), || store(p, &mut small, 0, &words));
@@ -169,7 +169,7 @@ fn a_refused_store() {
 #[test]
 fn a_refused_read() {
     let mut slow = Slow::default();
-    let (archive, small) = (huge_archive(), [0; 64]);
+    let (archive, small) = (huge_archive(), [0; 256]);
     for (number, p) in bad() {
         let mut words = huge_words(1);
         slow.refused(number, &format!("read, bad parameters {p:?}"), || read(p, &archive, 0, &mut words));
@@ -179,7 +179,7 @@ fn a_refused_read() {
         let mut block = vec![0; 4usize.pow(dimension)];
         slow.refused(6, &format!("read, {what}, huge archive"), || read(p, &archive, 0, &mut block));
         slow.refused(6, &format!("read, {what}, both huge"), || read(p, &archive, 0, &mut words));
-        for slot in [16, 1 << 32, usize::MAX] {
+        for slot in [64, 1 << 32, usize::MAX] {
             slow.refused(7, &format!("read, {what}, slot {slot}"), || read(p, &small, slot, &mut words));
         }
         slow.refused(8, &format!("read, {what}, huge words"), || read(p, &small, 0, &mut words));

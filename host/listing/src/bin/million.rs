@@ -1,7 +1,7 @@
 //! Measures the listing program: the time and the memory that it takes for a million blocks.
 //!
-//! `million [COUNT]`: that many exact integer blocks of each dimension, of readings that change slowly and of random
-//! words. The input comes from a file and the output goes to one. The slots are 33N + 4 bits wide, which every
+//! `million [COUNT]`: that many exact integer blocks of dimensions 1 and 2, of readings that change slowly and of random
+//! words; of dimension 3 a quarter of it, of dimension 4 a sixteenth. The input comes from a file and the output goes to one. The slots are 33N + 4 bits wide, which every
 //! block fits.
 
 use listing::{peak_kib, program};
@@ -104,9 +104,9 @@ fn main() -> io::Result<()> {
         }
     };
     println!("The listing program, exact integers, from a file to a file:");
-    for dimension in [1, 2] {
+    for (dimension, part) in [(1, 1), (2, 1), (3, 4), (4, 16)] {
         for is_smooth in [true, false] {
-            measure(dimension, blocks, is_smooth)?;
+            measure(dimension, blocks / part, is_smooth)?;
         }
     }
     Ok(())

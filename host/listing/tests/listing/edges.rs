@@ -22,7 +22,7 @@ fn lines_across_the_end_of_a_buffer() {
     let mut random = Random::new(5);
     for bits in 4..18 {
         let size = 1 << bits;
-        for off in [0, 1, 2, 12, 31, 32, 33, 34] {
+        for off in [0, 1, 2, 12, 31, 32, 33, 34, 512, 513, 2_048, 2_049] {
             let first = First { width: 33, ..First::good(&mut random) };
             // The next line's first byte stands `off` before the end, and the input ends near it.
             compare_from_file(&input(&mut random, first, size - off.min(size)));

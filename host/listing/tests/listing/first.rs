@@ -27,13 +27,16 @@ fn no_lines_and_only_a_first_line() {
 fn refused_first_lines_stop_the_program() {
     for (first, answer) in [
         ("020000000001", "010000\n"),
-        ("010300000001", "020000\n"),
+        ("010000000001", "020000\n"),
+        ("010500000001", "020000\n"),
         ("000102000001", "030000\n"),
         ("000101000001", "040000\n"),
         ("000100210030", "040000\n"),
         ("000101200001", "050000\n"),
         ("00010120000f", "050000\n"),
-        ("000101200401", "050000\n"),
+        ("00010120210f", "050000\n"),
+        ("00050120210f", "020000\n"),
+        ("00040120210f", "050000\n"),
         ("ffffffffffff", "010000\n"),
     ] {
         lists(format!("{first}\n{ONES}{ONES}").as_bytes(), answer);
@@ -95,7 +98,12 @@ fn every_number_of_a_first_line() {
     let widths: Vec<u32> = if is_long() {
         (0..=0xffff).collect()
     } else {
-        (0..64).chain(1000..1050).chain((4..16).map(|bit| 1 << bit)).chain([0xfff0, 0xffff]).collect()
+        (0..64)
+            .chain(1000..1050)
+            .chain(8_440..8_480)
+            .chain((4..16).map(|bit| 1 << bit))
+            .chain([0xfff0, 0xffff])
+            .collect()
     };
     widths.into_iter().for_each(|width| lines(First { width, mode: width & 1, ..good }));
 }

@@ -44,16 +44,17 @@ fn every_kind_mode_dimension_and_width() {
     let mut random = Random::new(2);
     let mut answers = Answers::none();
     let rounds = if is_long() { 60 } else { 1 };
-    for case in 0..8 * WIDTHS.len() * rounds {
+    for case in 0..16 * WIDTHS.len() * rounds {
         let first = First {
             kind: case as u32 & 1,
-            dimension: 1 + (case as u32 >> 1 & 1),
-            mode: case as u32 >> 2 & 1,
-            width: WIDTHS[case / 8 % WIDTHS.len()],
+            mode: case as u32 >> 1 & 1,
+            dimension: 1 + (case as u32 >> 2 & 3),
+            width: WIDTHS[case / 16 % WIDTHS.len()],
             ..First::good(&mut random)
         };
         let mut input = first.line();
-        (0..30).for_each(|_| input.extend(good_line(&mut random, first)));
+        let lines = if first.dimension < 3 { 30 } else { 10 };
+        (0..lines).for_each(|_| input.extend(good_line(&mut random, first)));
         (0..10).for_each(|_| input.extend(any_line(&mut random, first)));
         compare(&input);
         count(&mut answers, &input);
@@ -61,16 +62,17 @@ fn every_kind_mode_dimension_and_width() {
     answers.must_include(&[0, 9, 10, 12]);
 }
 
-/// Every byte at every place of a block's line, its newline too. All are lines of one input.
+/// Every byte at every place of a block's line, its newline too, in the larger dimensions 16 bytes or one at each place. All
+/// are lines of one input.
 #[test]
 fn every_byte_at_every_place_of_a_line() {
     let mut random = Random::new(3);
-    for dimension in [1, 2] {
+    for (dimension, step) in [(1, 1), (2, 1), (3, 16), (4, 256)] {
         let first = First { kind: 0, dimension, mode: 1, planes: 32, width: 0x30 };
         let mut input = first.line();
         for byte in 0..=255 {
             let mut line = line_of(&vec![random.word() >> 28; first.block_len()]);
-            for place in 0..line.len() {
+            for place in (usize::from(byte) % step..line.len()).step_by(step) {
                 let before = std::mem::replace(&mut line[place], byte);
                 input.extend(&line);
                 line[place] = before;
@@ -80,16 +82,19 @@ fn every_byte_at_every_place_of_a_line() {
     }
 }
 
-/// Lines of every length up to 300, all of digits.
+/// Lines of every length up to 2,100, all of digits: one of them is a block's, those of other dimensions are not.
 #[test]
 fn every_length_of_a_line() {
-    for dimension in [1, 2] {
-        let first = First { kind: 1, dimension, mode: 1, planes: 32, width: 1024 };
+    for dimension in 1..=4 {
+        let first = First { kind: 1, dimension, mode: 1, planes: 32, width: 8_462 };
         let mut input = first.line();
-        for length in 0..=300 {
+        for length in 0..=2_100 {
             input.extend(vec![b'3'; length]);
             input.push(b'\n');
         }
         compare(&input);
+        let mut answers = Answers::none();
+        count(&mut answers, &input);
+        answers.must_include(&[0, 12]);
     }
 }

@@ -23,11 +23,11 @@ fn a_hundred_thousand_lines() {
 #[test]
 fn many_lines_of_every_sort() {
     let mut random = Random::new(11);
-    for case in 0..8 {
+    for case in 0..16 {
         let good = First::good(&mut random);
-        let first = First { kind: case & 1, dimension: 1 + (case >> 1 & 1), mode: case >> 2, ..good };
+        let first = First { kind: case & 1, mode: case >> 1 & 1, dimension: 1 + (case >> 2), ..good };
         let mut input = first.line();
-        (0..4_000).for_each(|_| input.extend(any_line(&mut random, first)));
+        (0..8_000 >> first.dimension).for_each(|_| input.extend(any_line(&mut random, first)));
         compare(&input);
     }
 }
@@ -36,7 +36,7 @@ fn many_lines_of_every_sort() {
 #[test]
 fn lines_of_a_megabyte() {
     let mut random = Random::new(12);
-    for dimension in [1, 2] {
+    for dimension in 1..=4 {
         let first = First { dimension, ..First::good(&mut random) };
         let line = first.line();
         let good = good_line(&mut random, first);
@@ -56,10 +56,10 @@ fn lines_of_a_megabyte() {
 /// Lines whose length is a well formed one's and a multiple of 256 or of 65,536, as a short counter would see it.
 #[test]
 fn lengths_that_a_short_counter_would_take_for_good_ones() {
-    for dimension in [1, 2] {
+    for dimension in 1..=4 {
         let first = First { kind: 0, dimension, mode: 1, planes: 32, width: 1024 };
         let digits = 8 * first.block_len();
-        for more in [256, 512, 65_536, 131_072] {
+        for more in [256, 512, 2_048, 4_096, 65_536, 131_072] {
             for off in 0..3 {
                 let long = [vec![b'1'; digits + more + off - 1], b"\n".to_vec()].concat();
                 compare(&[&first.line()[..], &long, &vec![b'1'; digits], b"\n"].concat());

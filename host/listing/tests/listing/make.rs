@@ -13,18 +13,24 @@ pub struct First {
 }
 
 /// Widths with all sorts of spare bits, those that every exact block fits and those just below.
-pub const WIDTHS: [u32; 20] =
-    [0, 16, 17, 23, 24, 25, 31, 33, 48, 63, 131, 135, 136, 146, 531, 532, 541, 542, 1023, 1024];
+pub const WIDTHS: [u32; 26] = [
+    0, 16, 17, 23, 24, 25, 31, 33, 48, 63, 131, 135, 136, 146, 531, 532, 541, 542, 2115, 2116, 2125, 2126,
+    8451, 8452, 8461, 8462,
+];
 
 impl First {
     /// Numbers of which none is refused.
     pub fn good(random: &mut Random) -> First {
         First {
             kind: random.pick(&[0, 1]),
-            dimension: random.pick(&[1, 2]),
+            dimension: random.pick(&[1, 1, 2, 2, 3, 4]),
             mode: random.pick(&[0, 1]),
             planes: if random.once_in(2) { 32 } else { 1 + random.below(32) as u32 },
-            width: if random.once_in(2) { random.pick(&WIDTHS) } else { 16 + random.below(1009) as u32 },
+            width: match random.below(4) {
+                0 | 1 => random.pick(&WIDTHS),
+                2 => random.between(16, 1_024),
+                _ => random.between(16, 8_462),
+            },
         }
     }
 
@@ -34,10 +40,10 @@ impl First {
         for _ in 0..1 + random.below(2) {
             match random.below(5) {
                 0 => first.kind = random.pick(&[2, 3, 0x10, 0xff]),
-                1 => first.dimension = random.pick(&[0, 3, 4, 0x11, 0xff]),
+                1 => first.dimension = random.pick(&[0, 5, 6, 0x11, 0xff]),
                 2 => first.mode = random.pick(&[2, 3, 0x80, 0xff]),
                 3 => first.planes = random.pick(&[0, 33, 64, 0xff]),
-                _ => first.width = random.pick(&[1, 15, 1025, 0x210e, 0xffff]),
+                _ => first.width = random.pick(&[1, 15, 8463, 0x4000, 0xffff]),
             }
         }
         first
@@ -49,9 +55,9 @@ impl First {
         format!("{kind:02x}{dimension:02x}{mode:02x}{planes:02x}{width:04x}\n").into_bytes()
     }
 
-    /// The words of a block.
+    /// The words of a block; 4 where the dimension is none.
     pub fn block_len(self) -> usize {
-        if self.dimension == 2 { 16 } else { 4 }
+        if (1..=4).contains(&self.dimension) { 4usize.pow(self.dimension) } else { 4 }
     }
 }
 
@@ -99,7 +105,7 @@ pub fn damaged(random: &mut Random, mut line: Vec<u8>) -> Vec<u8> {
         5 => line.insert(end, b'\r'),
         6 => line = b"\n".to_vec(),
         7 => line[at].make_ascii_uppercase(),
-        _ => line = [vec![b'7'; random.below(300)], b"\n".to_vec()].concat(),
+        _ => line = [vec![b'7'; random.below(2 * line.len())], b"\n".to_vec()].concat(),
     }
     line
 }
@@ -111,8 +117,13 @@ pub fn any_line(random: &mut Random, first: First) -> Vec<u8> {
             let line = good_line(random, first);
             damaged(random, line)
         }
-        // The length of the other dimension.
-        1 if random.once_in(3) => line_of(&block(random, 20 - first.block_len())),
+        // The length of another dimension.
+        1 if random.once_in(3) => {
+            let mut others = vec![4, 16, 64, 256];
+            others.retain(|&len| len != first.block_len());
+            let len = random.pick(&others);
+            line_of(&block(random, len))
+        }
         _ => good_line(random, first),
     }
 }

@@ -14,10 +14,9 @@ fn mixed(random: &mut Random, dimension: u32, lines: usize) -> Vec<u8> {
 #[test]
 fn pieces_of_every_size() {
     let mut random = Random::new(6);
-    let sizes =
-        (1..=if is_long() { 600 } else { 70 }).chain([127, 128, 129, 255, 256, 257, 1000, 4095, 4096]);
-    for size in sizes {
-        for (dimension, lines) in [(1, 20), (2, 7)] {
+    let more = [127, 128, 129, 255, 256, 257, 511, 512, 513, 1000, 2047, 2048, 2049, 2050, 4095, 4096];
+    for size in (1..=if is_long() { 2_100 } else { 70 }).chain(more) {
+        for (dimension, lines) in [(1, 20), (2, 7), (3, 3), (4, 2)] {
             let input = mixed(&mut random, dimension, lines);
             compare_in_pieces(&input, &input.chunks(size).collect::<Vec<_>>());
             let unended = &input[..input.len() - 1];
@@ -29,8 +28,8 @@ fn pieces_of_every_size() {
 #[test]
 fn cuts_around_every_newline() {
     let mut random = Random::new(7);
-    for dimension in [1, 2] {
-        let input = mixed(&mut random, dimension, 30);
+    for (dimension, lines) in [(1, 30), (2, 30), (3, 10), (4, 10)] {
+        let input = mixed(&mut random, dimension, lines);
         let newlines: Vec<usize> = (0..input.len()).filter(|&place| input[place] == b'\n').collect();
         for newline in newlines {
             for cut in [newline.saturating_sub(1), newline, newline + 1, newline + 2] {
@@ -44,14 +43,15 @@ fn cuts_around_every_newline() {
     }
 }
 
+/// In the largest dimension at every seventh.
 #[test]
 fn a_cut_at_every_place() {
     let mut random = Random::new(8);
-    for dimension in [1, 2] {
+    for (dimension, step) in [(1, 1), (2, 1), (3, 1), (4, 7)] {
         let first = First { dimension, ..First::good(&mut random) };
         let mut input = first.line();
         (0..2).for_each(|_| input.extend(good_line(&mut random, first)));
-        for cut in 0..=input.len() {
+        for cut in (0..=input.len()).step_by(step) {
             compare_in_pieces(&input, &[&input[..cut], &input[cut..]]);
         }
     }

@@ -12,7 +12,7 @@ fn sample(name: &str) -> (String, String) {
 
 #[test]
 fn the_samples_list_as_they_should() {
-    for name in ["blocks", "floats", "squares"] {
+    for name in ["blocks", "floats", "squares", "cubes", "stacks"] {
         let (input, output) = sample(name);
         assert_eq!(String::from_utf8(reference::listing(input.as_bytes())).unwrap(), output, "the reference");
         assert_eq!(String::from_utf8(through_pipe(input.as_bytes()).stdout).unwrap(), output, "{name}");
@@ -39,6 +39,18 @@ fn the_floats_of_the_papers_table() {
     // 1 1 are the lowest two bits of the first byte.
     assert_eq!(lines[2].0, "80000000".repeat(4));
     assert!(["3", "7", "b", "f"].contains(&&lines[2].1[7..8]));
+}
+
+/// 64 and 256 times 4.5, the first blocks of samples/cubes.txt and samples/stacks.txt: e is 130, the integer 9 x 2^26, which
+/// negabinary writes with the bits 30, 29 and 26, so six planes are needed.
+#[test]
+fn equal_readings_of_a_cube_and_of_a_stack() {
+    for (name, words, bytes) in [("cubes", 64, 266), ("stacks", 256, 1_058)] {
+        let (input, output) = sample(name);
+        assert_eq!(input.lines().nth(1), Some(&*"40900000".repeat(words)));
+        // 10 01000001 10100 0 110 10 00 00 10, 27 bits, the lowest bit of each byte first.
+        assert_eq!(output.lines().next(), Some(&*format!("00001b09160b02{}", "00".repeat(bytes - 4))));
+    }
 }
 
 /// The picture of README.md: fields of the input and of the output stand in one column, what they mean in another.

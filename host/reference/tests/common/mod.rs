@@ -3,7 +3,7 @@
 
 pub use random::Random;
 use reference::{Params, Reply};
-pub use testing::{EXACT, FLOATS, INTEGERS, LOSSY, bits};
+pub use testing::{EXACT, FLOATS, INTEGERS, LOSSY, bits, by_hand};
 
 pub fn params(kind: u32, dimension: u32, mode: u32, planes: u32, width: u32) -> Params {
     Params { kind, dimension, mode, planes, width }
@@ -23,6 +23,13 @@ pub fn stored(params: &Params, words: &[u32]) -> (Reply, Vec<bool>) {
     let mut archive = vec![0; width.div_ceil(8)];
     let reply = reference::store(params, &mut archive, 0, words);
     (reply, (0..width).map(|t| reference::bits::get(&archive, t)).collect())
+}
+
+/// The slot has this code and then zeros.
+pub fn starts_with(slot: &[bool], text: &str) {
+    let code = bits(text);
+    assert_eq!(slot[..code.len()], code[..], "code");
+    assert!(!slot[code.len()..].contains(&true), "padding");
 }
 
 /// Bytes that begin with these bits.

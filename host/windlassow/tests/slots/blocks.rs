@@ -4,14 +4,19 @@ use crate::common::*;
 use crate::compare::*;
 use crate::make::*;
 use reference::{Params, transform};
+use testing::by_hand;
 
+/// Each width in every dimension, with a kind and mode that are drawn; in the two smaller dimensions those up to 560 with all
+/// kinds and modes, and more often.
 #[test]
 fn every_width_kind_dimension_and_mode() {
     let mut random = Random::new(1);
     let mut answers = Answers::none();
     for width in all_widths() {
+        let drawn = (random.word_below(2), random.word_below(2));
         for (kind, dimension, mode) in all_kinds() {
-            for _ in 0..rounds(6) {
+            let count = if width <= 560 && dimension <= 2 { 6 } else { usize::from((kind, mode) == drawn) };
+            for _ in 0..rounds(count) {
                 let p = Params { kind, dimension, mode, planes: any_planes(&mut random), width };
                 let slots = 1 + random.below(5);
                 let archive = archive_for(&mut random, &p, slots);
@@ -28,9 +33,12 @@ fn every_width_kind_dimension_and_mode() {
 fn every_way_of_making_blocks() {
     let mut random = Random::new(2);
     for (kind, dimension, mode) in all_kinds() {
+        let n = 4u32.pow(dimension);
         for maker in 0..MAKERS {
-            for _ in 0..rounds(250) {
-                let width = random.pick(&[0, 16, 24, 40, 64, 97, 131, 136, 146, 200, 532, 542, 1024]);
+            for _ in 0..rounds_in(dimension, 250) {
+                let full = [33 * n + 3, 33 * n + 4, 33 * n + 13, 33 * n + 14, 8_462];
+                let narrow = [0, 16, 24, 40, 64, 97, 131, 200, 4 * n + 16, 12 * n, 20 * n];
+                let width = if random.once_in(3) { random.pick(&full) } else { random.pick(&narrow) };
                 let p = Params { kind, dimension, mode, planes: any_planes(&mut random), width };
                 let words = block(&mut random, maker, block_len(&p));
                 let archive = archive_for(&mut random, &p, 2);
@@ -45,8 +53,8 @@ fn every_number_of_planes() {
     let mut random = Random::new(3);
     for planes in 1..=32 {
         for (kind, dimension, mode) in all_kinds() {
-            for _ in 0..rounds(20) {
-                let width = 16 + random.below(600) as u32;
+            for _ in 0..rounds_in(dimension, 20) {
+                let width = any_width(&mut random, dimension);
                 let p = Params { kind, dimension, mode, planes, width };
                 let maker = random.below(MAKERS);
                 let words = block(&mut random, maker, block_len(&p));
@@ -61,11 +69,12 @@ fn every_number_of_planes() {
 fn slots_at_every_bit_offset() {
     let mut random = Random::new(4);
     for (kind, dimension, mode) in all_kinds() {
-        for width in [17, 19, 33, 50, 71, 136, 137, 146, 147, 532, 533, 542, 543, 545] {
+        let n = 4u32.pow(dimension);
+        for width in [17, 19, 33, 50, 71, 33 * n + 4, 33 * n + 5, 33 * n + 13, 33 * n + 14, 8_461] {
             let p = Params { kind, dimension, mode, planes: 32, width };
             let mut archive = random.bytes((9 * width as usize).div_ceil(8));
             for slot in 0..9 {
-                for _ in 0..rounds(2) {
+                for _ in 0..rounds_in(dimension, 2) {
                     let maker = random.below(MAKERS);
                     let words = block(&mut random, maker, block_len(&p));
                     compare_all(&p, &archive, slot, &words);
@@ -79,7 +88,7 @@ fn slots_at_every_bit_offset() {
 #[test]
 fn the_largest_archive_and_its_last_slot() {
     let mut random = Random::new(5);
-    for width in [16, 17, 31, 136, 1023, 1024] {
+    for width in [16, 17, 31, 136, 1024, 2_126, 8_461, 8_462] {
         for (kind, dimension, mode) in all_kinds() {
             let p = Params { kind, dimension, mode, planes: 32, width };
             let archive = random.bytes(65_536);
@@ -92,19 +101,20 @@ fn the_largest_archive_and_its_last_slot() {
     }
 }
 
-/// One block at every budget: cuts at every place of the code, in tests, scans and verbatim bits.
+/// One block at every budget up to the longest code, in the larger dimensions at some: cuts at every place of the
+/// code, in tests, scans and verbatim bits.
 #[test]
 fn lossy_cuts_at_every_budget() {
     let mut random = Random::new(12);
-    for kind in [INTEGERS, FLOATS] {
-        for dimension in [1, 2] {
-            for _ in 0..rounds(8) {
-                let maker = random.pick(&[3, 4, 5, 6, 7, 10, 12, 13]);
-                let p = Params { kind, dimension, mode: LOSSY, planes: any_planes(&mut random), width: 0 };
-                let words = block(&mut random, maker, block_len(&p));
-                for width in 16..=580 {
-                    compare_all(&Params { width, ..p }, &[0xFF; 73], 0, &words);
-                }
+    for (kind, dimension, _) in all_kinds().filter(|kind| kind.2 == LOSSY) {
+        let step = [1, 1, 2, 13][dimension as usize - 1];
+        for _ in 0..rounds(if dimension < 3 { 8 } else { 4 }) {
+            let maker = random.pick(&[3, 4, 5, 6, 7, 10, 12, 13]);
+            let p = Params { kind, dimension, mode: LOSSY, planes: any_planes(&mut random), width: 0 };
+            let words = block(&mut random, maker, block_len(&p));
+            let longest = (36 * 4u32.pow(dimension)).min(8_462);
+            for width in (16 + random.word_below(step)..=longest).step_by(step as usize) {
+                compare_all(&Params { width, ..p }, &vec![0xFF; width.div_ceil(8) as usize], 0, &words);
             }
         }
     }
@@ -115,23 +125,22 @@ fn lossy_cuts_at_every_budget() {
 #[test]
 fn the_widths_that_take_every_exact_block() {
     let mut random = Random::new(13);
-    for (kind, extra) in [(INTEGERS, 4), (FLOATS, 14)] {
-        for dimension in [1, 2] {
-            let n = 4u32.pow(dimension);
-            let p = Params { kind, dimension, mode: EXACT, planes: 32, width: 33 * n + extra };
-            for maker in 0..MAKERS {
-                for _ in 0..rounds(200) {
-                    let words = block(&mut random, maker, n as usize);
-                    assert_eq!(compare_all(&p, &[0xFF; 80], 0, &words).answer, 0);
-                }
+    for (kind, dimension, _) in all_kinds().filter(|kind| kind.2 == EXACT) {
+        let n = 4u32.pow(dimension);
+        let width = 33 * n + if kind == INTEGERS { 4 } else { 14 };
+        let p = Params { kind, dimension, mode: EXACT, planes: 32, width };
+        let archive = vec![0xFF; width.div_ceil(8) as usize];
+        for maker in 0..MAKERS {
+            for _ in 0..rounds_in(dimension, 200) {
+                let words = block(&mut random, maker, n as usize);
+                assert_eq!(compare_all(&p, &archive, 0, &words).answer, 0);
             }
         }
     }
-    for dimension in [1, 2] {
+    for dimension in 1..=4 {
         let n = 4u32.pow(dimension);
-        let longest = transform::from_coefficients(&vec![u32::MAX; n as usize], dimension, transform::sums);
         let p = Params { kind: INTEGERS, dimension, mode: EXACT, planes: 32, width: 33 * n + 3 };
-        let refused = compare_all(&p, &[0; 80], 0, &longest);
+        let refused = compare_all(&p, &vec![0; 5 * n as usize], 0, &by_hand::longest(dimension));
         assert_eq!((refused.answer, refused.count), (10, 33 * n + 4));
     }
 }
@@ -140,19 +149,19 @@ fn the_widths_that_take_every_exact_block() {
 #[test]
 fn every_count_of_exact_planes() {
     let mut random = Random::new(14);
-    for dimension in [1, 2] {
+    for dimension in 1..=4 {
         let n = 4usize.pow(dimension);
-        let p = Params { kind: INTEGERS, dimension, mode: EXACT, planes: 32, width: 600 };
+        let p = Params { kind: INTEGERS, dimension, mode: EXACT, planes: 32, width: 33 * n as u32 + 4 };
         for planes in 1..=32 {
             let top = u32::MAX << (32 - planes);
-            for _ in 0..rounds(30) {
+            for _ in 0..rounds_in(dimension, 40) {
                 let coefficients: Vec<u32> = match random.below(3) {
                     0 => vec![top; n],
                     1 => (0..n).map(|_| random.word() & top).collect(),
                     _ => (0..n).map(|_| random.word() >> random.below(32) & top).collect(),
                 };
                 let words = transform::from_coefficients(&coefficients, dimension, transform::sums);
-                compare_all(&p, &[0; 75], 0, &words);
+                compare_all(&p, &vec![0; 5 * n], 0, &words);
             }
         }
     }

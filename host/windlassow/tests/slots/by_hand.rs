@@ -1,7 +1,7 @@
 //! Outcomes worked out by hand from document 01, on the library alone.
 
-use testing::bits;
-use windlassow::{Params, read, slot_count, store};
+use testing::{bits, by_hand};
+use windlassow::{Params, Refusal, bit_count, read, slot_count, store};
 
 const ONE: u32 = 0x3F80_0000;
 
@@ -37,15 +37,73 @@ fn equal_integers_of_p8() {
     stores(p, &[-2i32 as u32; 4], &format!("01111 {} 110", zeros(30)));
 }
 
-/// The value of place i + 4j is i, then j. Its one coefficient other than 0 is a 1 at place 1, the second in order, or at
-/// place 4, the third.
+/// The value of place i + 4j + .. is one of the indices. Its one coefficient other than 0 is a 1 at place 1, 4, 16 or 64,
+/// the next in order after place 0.
 #[test]
 fn columns_are_next_to_each_other() {
-    let p = Params::from_numbers(0, 2, 1, 32, 64);
-    let zeros = "0".repeat(31);
-    let block = |value: fn(u32) -> u32| (0..16).map(value).collect::<Vec<u32>>();
-    stores(p, &block(|place| place % 4), &format!("11111 {zeros} 1010"));
-    stores(p, &block(|place| place / 4), &format!("11111 {zeros} 10010"));
+    for dimension in 1..=4 {
+        let p = Params::from_numbers(0, dimension, 1, 32, 64);
+        for axis in 0..dimension as usize {
+            let block: Vec<u32> =
+                (0..4usize.pow(dimension)).map(|place| by_hand::indices(place)[axis] as u32).collect();
+            stores(p, &block, &format!("11111 {} 1 {} 10", "0".repeat(31), "0".repeat(axis + 1)));
+        }
+    }
+}
+
+/// A block of one coefficient shows its number in the order.
+#[test]
+fn the_order_of_coefficients() {
+    for dimension in 1..=4 {
+        let p = Params::from_numbers(0, dimension, 1, 32, 300);
+        for (number, place) in by_hand::order(dimension) {
+            stores(p, &by_hand::single(dimension, place), &by_hand::single_code(dimension, number));
+        }
+    }
+}
+
+/// P3 and P4 for every N.
+#[test]
+fn the_longest_integer_block() {
+    for (dimension, needed) in [(1, 136), (2, 532), (3, 2_116), (4, 8_452)] {
+        let p = Params::from_numbers(0, dimension, 1, 32, needed as u32);
+        let block = by_hand::longest(dimension);
+        let mut archive = stores(p, &block, &"1".repeat(needed));
+        let narrow = p.with_width(needed as u32 - 1);
+        assert_eq!(store(narrow, &mut archive, 0, &block), Err(Refusal::CodeTooLong { bits: needed }));
+        assert_eq!(bit_count(narrow, &block), Ok(needed));
+        let mut back = vec![9; block.len()];
+        assert_eq!(read(p, &archive, 0, &mut back), Ok(block.len()));
+        assert_eq!(back, block);
+    }
+}
+
+#[test]
+fn one_word_of_a_cube_and_of_a_stack() {
+    for dimension in [3, 4] {
+        let mut block = vec![0; 4usize.pow(dimension)];
+        block[0] = 1;
+        let p = Params::from_numbers(0, dimension, 1, 32, 1024);
+        stores(p, &block, &by_hand::first_word_code(dimension));
+    }
+}
+
+/// The lossy transform and its reading, in which the order of the axes shows.
+#[test]
+fn axis_by_axis_from_i_on_and_back() {
+    for dimension in 2..=4 {
+        let p = Params::from_numbers(0, dimension, 0, 32, 64);
+        for axis in 0..dimension as usize - 1 {
+            stores(p, &by_hand::axes_block(dimension, axis), &by_hand::axes_code(axis));
+            let (code, block) = by_hand::axes_slot(dimension, axis);
+            let mut archive = [0; 8];
+            bits(&code).iter().enumerate().for_each(|(t, &bit)| archive[t / 8] |= u8::from(bit) << (t % 8));
+            let mut words = vec![9; block.len()];
+            assert_eq!(read(p, &archive, 0, &mut words), Ok(block.len()));
+            let words: Vec<i32> = words.into_iter().map(|word| word as i32).collect();
+            assert_eq!(words, block, "dimension {dimension}, axis {axis}");
+        }
+    }
 }
 
 /// 1 2 3 4 lifts to 2 -1 0 0, with a half of -1 on the way; in negabinary 6 3 0 0. The planes 31 to 3 are empty, then
@@ -136,7 +194,10 @@ fn slot_counts() {
     // W = 0 stands for 8N.
     assert_eq!(count(1, 0, 11), Ok(2));
     assert_eq!(count(2, 0, 47), Ok(2));
+    assert_eq!(count(3, 0, 191), Ok(2));
+    assert_eq!(count(4, 0, 767), Ok(2));
     assert_eq!(count(1, 17, 65_536), Ok(30_840));
-    assert_eq!(count(1, 1024, 127), Ok(0));
+    assert_eq!(count(1, 8_462, 1_057), Ok(0));
+    assert_eq!(count(4, 8_462, 65_536), Ok(61));
     assert_eq!(count(1, 17, 65_537), Err(6));
 }

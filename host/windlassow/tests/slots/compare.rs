@@ -2,17 +2,23 @@
 
 use crate::common::*;
 use reference::{Params, Reply, bits};
+use windlassow::{MAX_WIDTH, MIN_WIDTH};
 
 pub const NO_WORD: u32 = 0xDEAD_BEEF;
 
 /// Every combination of kind, dimension and mode.
 pub fn all_kinds() -> impl Iterator<Item = (u32, u32, u32)> {
-    (0..8).map(|k| (k & 1, 1 + (k >> 1 & 1), k >> 2))
+    (0..16).map(|k| (k & 1, 1 + (k >> 2), k >> 1 & 1))
 }
 
-/// Every good width: 0 and 16 to 1,024.
+/// Every good width: 0 and 16 to 8,462.
 pub fn all_widths() -> impl Iterator<Item = u32> {
-    std::iter::once(0).chain(16..=1024)
+    std::iter::once(0).chain(MIN_WIDTH..=MAX_WIDTH)
+}
+
+/// `rounds(count)` for blocks of 4 words, and in each further dimension half as many: larger blocks take longer.
+pub fn rounds_in(dimension: u32, count: usize) -> usize {
+    rounds(count).div_ceil(1 << (dimension - 1))
 }
 
 pub fn block_len(p: &Params) -> usize {

@@ -4,20 +4,22 @@ use crate::common::*;
 use crate::compare::*;
 use crate::make::*;
 use reference::{Params, bits, transform};
+use windlassow::MAX_WIDTH;
 
 #[test]
 fn one_damaged_bit() {
     let mut random = Random::new(6);
     let mut answers = Answers::none();
     for (kind, dimension, mode) in all_kinds() {
-        for _ in 0..rounds(16) {
-            let width = 16 + random.below(if dimension == 1 { 160 } else { 620 }) as u32;
+        let step = [1, 1, 3, 37][dimension as usize - 1];
+        for _ in 0..rounds(if dimension < 3 { 16 } else { 6 }) {
+            let width = any_width(&mut random, dimension).min(37 * 4u32.pow(dimension));
             let p = Params { kind, dimension, mode, planes: 32, width };
             let maker = random.below(MAKERS);
             let words = block(&mut random, maker, block_len(&p));
             let archive = archive_for(&mut random, &p, 3);
             let (_, stored) = compare_store(&p, &archive, 1, &words);
-            for t in 0..3 * width as usize {
+            for t in (random.below(step)..3 * width as usize).step_by(step) {
                 let mut damaged = stored.clone();
                 let bit = bits::get(&damaged, t);
                 bits::set(&mut damaged, t, !bit);
@@ -32,8 +34,8 @@ fn one_damaged_bit() {
 fn many_damaged_bits() {
     let mut random = Random::new(7);
     for (kind, dimension, mode) in all_kinds() {
-        for _ in 0..rounds(1500) {
-            let width = 16 + random.below(600) as u32;
+        for _ in 0..rounds_in(dimension, 1500) {
+            let width = any_width(&mut random, dimension);
             let p = Params { kind, dimension, mode, planes: any_planes(&mut random), width };
             let maker = random.below(MAKERS);
             let words = block(&mut random, maker, block_len(&p));
@@ -68,8 +70,8 @@ fn random_slots() {
     let mut random = Random::new(8);
     let mut answers = Answers::none();
     for (kind, dimension, mode) in all_kinds() {
-        for _ in 0..rounds(5000) {
-            let width = if random.once_in(2) { 0 } else { 16 + random.below(300) as u32 };
+        for _ in 0..rounds_in(dimension, 5000) {
+            let width = if random.once_in(2) { 0 } else { any_width(&mut random, dimension) };
             let p = Params { kind, dimension, mode, planes: any_planes(&mut random), width };
             let archive = random_slot(&mut random, &p);
             answers.count(compare_read(&p, &archive, 0, block_len(&p)).0.answer);
@@ -78,24 +80,24 @@ fn random_slots() {
     answers.must_include(&[0, 11]);
 }
 
-/// All slots of the smallest width. What an exact read accepts, a store writes again.
+/// All slots of the smallest width, in the larger dimensions every so many. What an exact read accepts, a store writes
+/// again.
 #[test]
 fn every_slot_of_16_bits() {
     for (kind, dimension, mode) in all_kinds() {
         let p = Params { kind, dimension, mode, planes: 32, width: 16 };
-        let mut accepted = 0;
-        for slot in 0..=u16::MAX {
+        let mut refused = 0;
+        for slot in (0..=u16::MAX).step_by([1, 1, 1, 7][dimension as usize - 1]) {
             let archive = slot.to_le_bytes();
             let (given, words) = compare_read(&p, &archive, 0, block_len(&p));
-            if given.answer == 0 {
-                accepted += 1;
-            }
-            if given.answer == 0 && mode == EXACT {
+            if given.answer != 0 {
+                refused += 1;
+            } else if mode == EXACT {
                 let (stored, again) = compare_store(&p, &[0xFF; 2], 0, &words);
                 assert_eq!((stored.answer, &again[..]), (0, &archive[..]));
             }
         }
-        assert_eq!(accepted == 1 << 16, mode == LOSSY);
+        assert_eq!(refused == 0, mode == LOSSY);
     }
 }
 
@@ -109,16 +111,21 @@ fn put(archive: &mut [u8], at: &mut usize, code: &[bool]) {
     }
 }
 
+/// More than every exact block needs, as far as that is a width.
+fn wide(dimension: u32) -> u32 {
+    (33 * 4u32.pow(dimension) + 32).min(MAX_WIDTH)
+}
+
 /// Exact slots of good form whose e and p need not be a block's own: the border between 0 and 11.
 #[test]
 fn exact_slots_with_other_heads() {
     let mut random = Random::new(9);
     let mut answers = Answers::none();
-    for dimension in [1, 2] {
-        for _ in 0..rounds(20_000) {
+    for dimension in 1..=4 {
+        for _ in 0..rounds_in(dimension, 20_000) {
             let kind = random.below(2) as u32;
-            let p = Params { kind, dimension, mode: EXACT, planes: 1, width: 560 };
-            let mut archive = vec![0; 70];
+            let p = Params { kind, dimension, mode: EXACT, planes: 1, width: wide(dimension) };
+            let mut archive = vec![0; p.width.div_ceil(8) as usize];
             let mut at = 0;
             if kind == FLOATS {
                 put(&mut archive, &mut at, &[true]);
@@ -149,9 +156,8 @@ fn exact_slots_with_other_heads() {
 fn exact_float_slots_at_the_border_of_forms() {
     let mut random = Random::new(10);
     let mut answers = Answers::none();
-    for _ in 0..rounds(20_000) {
-        let dimension = 1 + random.below(2) as u32;
-        let p = Params { kind: FLOATS, dimension, mode: EXACT, planes: 32, width: 560 };
+    for dimension in (1..=4).flat_map(|dimension| vec![dimension; rounds_in(dimension, 10_000)]) {
+        let p = Params { kind: FLOATS, dimension, mode: EXACT, planes: 32, width: wide(dimension) };
         let e = random.below(256) as u32;
         let mut integers: Vec<u32> = (0..block_len(&p))
             .map(|_| {
@@ -162,7 +168,7 @@ fn exact_float_slots_at_the_border_of_forms() {
             .collect();
         // The largest magnitude is near the range that belongs to e.
         integers[0] = (1u32 << (28 + random.below(3))).wrapping_add(random.word() >> 30 << random.below(28));
-        let mut archive = vec![0; 70];
+        let mut archive = vec![0; p.width.div_ceil(8) as usize];
         let mut at = 0;
         put(&mut archive, &mut at, &[true, false]);
         put(&mut archive, &mut at, &bits::number(e, 8));
@@ -180,9 +186,9 @@ fn exact_float_slots_at_the_border_of_forms() {
 fn lossy_float_slots_of_every_e() {
     let mut random = Random::new(11);
     for e in 0..256 {
-        for dimension in [1, 2] {
-            for _ in 0..rounds(40) {
-                let width = 16 + random.below(600) as u32;
+        for dimension in 1..=4 {
+            for _ in 0..rounds_in(dimension, 40) {
+                let width = any_width(&mut random, dimension);
                 let p =
                     Params { kind: FLOATS, dimension, mode: LOSSY, planes: any_planes(&mut random), width };
                 let mut archive = vec![0; width.div_ceil(8) as usize];
@@ -205,8 +211,8 @@ fn lossy_float_slots_of_every_e() {
 fn a_read_does_not_see_the_neighbours() {
     let mut random = Random::new(17);
     for (kind, dimension, mode) in all_kinds() {
-        for _ in 0..rounds(300) {
-            let width = 16 + random.below(600) as u32;
+        for _ in 0..rounds_in(dimension, 300) {
+            let width = any_width(&mut random, dimension);
             let p = Params { kind, dimension, mode, planes: any_planes(&mut random), width };
             let maker = random.below(MAKERS);
             let words = block(&mut random, maker, block_len(&p));

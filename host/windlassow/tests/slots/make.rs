@@ -3,6 +3,8 @@
 use crate::common::*;
 use crate::compare::*;
 use reference::{Params, transform};
+use testing::by_hand::indices;
+use windlassow::{MAX_WIDTH, MIN_WIDTH};
 
 pub const SPECIAL: [u32; 28] = [
     0,
@@ -65,8 +67,8 @@ pub fn block(random: &mut Random, maker: usize, n: usize) -> Vec<u32> {
         4 => {
             let (a, b, c) = (random.word() >> 4, random.word() >> 12, random.word() >> 20);
             every(random, n, |random, place| {
-                let (i, j) = (place as u32 % 4, place as u32 / 4);
-                let curve = a.wrapping_add(b.wrapping_mul(i)).wrapping_add(c.wrapping_mul(j * j));
+                let [i, j, k, l] = indices(place).map(|index| index as u32);
+                let curve = a.wrapping_add(b.wrapping_mul(i + 2 * k)).wrapping_add(c.wrapping_mul(j * j + l));
                 curve.wrapping_add(random.word() >> 29)
             })
         }
@@ -121,7 +123,7 @@ pub fn block(random: &mut Random, maker: usize, n: usize) -> Vec<u32> {
         }
         // The longest codes: coefficients with many ones.
         _ => {
-            let dimension = if n == 4 { 1 } else { 2 };
+            let dimension = n.ilog(4);
             let step = if random.once_in(2) { transform::sums } else { transform::unlift };
             let shift = random.below(32) as u32;
             let coefficients = every(random, n, |random, _| (u32::MAX ^ 1 << random.below(32)) << shift);
@@ -138,6 +140,12 @@ pub fn archive_for(random: &mut Random, p: &Params, slots: usize) -> Vec<u8> {
         1 => vec![0xFF; bytes],
         _ => random.bytes(bytes),
     }
+}
+
+/// A width such as a block of this dimension may need, and now and then any other.
+pub fn any_width(random: &mut Random, dimension: u32) -> u32 {
+    let most = if random.once_in(8) { MAX_WIDTH } else { 37 * 4u32.pow(dimension) };
+    random.between(MIN_WIDTH, most.min(MAX_WIDTH))
 }
 
 pub fn any_planes(random: &mut Random) -> u32 {

@@ -6,18 +6,19 @@ use crate::make::*;
 use reference::Params;
 
 const KINDS: [u32; 4] = [0, 1, 2, u32::MAX];
-const DIMENSIONS: [u32; 6] = [0, 1, 2, 3, 4, u32::MAX];
+const DIMENSIONS: [u32; 7] = [0, 1, 2, 3, 4, 5, u32::MAX];
 const MODES: [u32; 4] = [0, 1, 2, u32::MAX];
 const PLANES: [u32; 6] = [0, 1, 20, 32, 33, u32::MAX];
-const WIDTHS: [u32; 14] = [0, 1, 8, 15, 16, 17, 64, 136, 1023, 1024, 1025, 8462, u32::MAX - 7, u32::MAX];
-const LENGTHS: [usize; 10] = [0, 1, 2, 3, 16, 17, 200, 65_535, 65_536, 65_537];
-const WORD_COUNTS: [usize; 9] = [0, 1, 3, 4, 5, 15, 16, 17, 64];
+const WIDTHS: [u32; 14] = [0, 1, 8, 15, 16, 17, 64, 136, 1025, 8461, 8462, 8463, u32::MAX - 7, u32::MAX];
+const LENGTHS: [usize; 12] = [0, 1, 2, 3, 16, 17, 200, 1_057, 1_058, 65_535, 65_536, 65_537];
+const WORD_COUNTS: [usize; 13] = [0, 1, 3, 4, 5, 15, 16, 17, 63, 64, 255, 256, 257];
 
 /// Calls every slot call with any mixture of good and bad numbers and buffers.
 fn compare_refusals(random: &mut Random, p: &Params, archive: &[u8], answers: &mut Answers) {
-    let len = random.pick(&WORD_COUNTS);
+    let is_block = (1..=4).contains(&p.dimension) && random.once_in(2);
+    let len = if is_block { block_len(p) } else { random.pick(&WORD_COUNTS) };
     let maker = random.below(MAKERS);
-    let words = if len == 4 || len == 16 { block(random, maker, len) } else { vec![0x7FC0_0000; len] };
+    let words = if is_block { block(random, maker, len) } else { vec![0x7FC0_0000; len] };
     let count = reference::slot_count(p, archive).count as usize;
     let slot = random.pick(&[
         0,
@@ -50,13 +51,13 @@ fn refusals_in_their_order() {
         };
         let p = Params {
             kind: number(&[0, 1], &KINDS),
-            dimension: number(&[1, 2], &DIMENSIONS),
+            dimension: number(&[1, 1, 1, 2, 2, 3, 4], &DIMENSIONS),
             mode: number(&[0, 1], &MODES),
             planes: number(&[1, 20, 32], &PLANES),
-            width: number(&[0, 16, 17, 64, 136, 1024], &WIDTHS),
+            width: number(&[0, 16, 17, 64, 136, 1024, 8462], &WIDTHS),
         };
         // Long archives are few, since they take long to copy.
-        let lengths = if random.once_in(50) { &LENGTHS[..] } else { &LENGTHS[..7] };
+        let lengths = if random.once_in(50) { &LENGTHS[..] } else { &LENGTHS[..9] };
         let archive = &noise[..random.pick(lengths)];
         compare_refusals(&mut random, &p, archive, &mut answers);
     }

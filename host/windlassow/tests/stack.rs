@@ -1,0 +1,115 @@
+//! The largest blocks and runs in threads of just the stack that the interface and the header name.
+//!
+//! What a thread's stack holds before the call is part of it: the C library's own data of the thread and the calls of std,
+//! some 5 KB together. If the stack is too small the test ends by a signal, and std names the thread.
+
+use random::Random;
+use reference::{floats, transform};
+use std::thread;
+use testing::{EXACT, FLOATS, INTEGERS, LOSSY, by_hand};
+use windlassow::{
+    MAX_RUN_LEN, MAX_STREAM_LEN, MAX_WIDTH, Params, STACK_BYTES, bit_count, fpc_read, fpc_write, read, store,
+};
+
+/// Does this in a thread of that stack.
+fn in_a_small_thread<T: Send>(name: &str, call: impl FnOnce() -> T + Send) -> T {
+    thread::scope(|scope| {
+        let thread = thread::Builder::new().name(name.to_string()).stack_size(STACK_BYTES);
+        thread.spawn_scoped(scope, call).unwrap().join().unwrap()
+    })
+}
+
+fn params(kind: u32, mode: u32) -> Params {
+    Params::from_numbers(kind, 4, mode, 32, MAX_WIDTH)
+}
+
+/// Blocks in one plane of which all 256 bits are ones that are still to be found, which takes the most calls within calls.
+fn deepest() -> [(u32, u32, Vec<u32>); 4] {
+    // A NaN of ones among zeros: the raw form makes 2^31 of it, and the differences of 2^31 0 0 0 are 2^31 everywhere.
+    let mut floats = vec![0; 256];
+    floats[0] = u32::MAX;
+    // Lossy coefficients that are all 2^8, so that no half is rounded; and the same as floats, which are brought to
+    // integers by a power of two.
+    let lossy: Vec<u32> = transform::from_coefficients(&[1 << 8; 256], 4, transform::unlift);
+    let lossy_floats = lossy.iter().map(|&word| (word as i32 as f32).to_bits()).collect();
+    [
+        (INTEGERS, EXACT, by_hand::longest(4)),
+        (FLOATS, EXACT, floats),
+        (INTEGERS, LOSSY, lossy),
+        (FLOATS, LOSSY, lossy_floats),
+    ]
+}
+
+/// Words of ones, which lossy mode does not take as floats; and a code in which one scan passes all places.
+fn others() -> [(u32, u32, Vec<u32>); 4] {
+    let ones = vec![u32::MAX; 256];
+    [
+        (INTEGERS, EXACT, ones.clone()),
+        (FLOATS, EXACT, ones.clone()),
+        (INTEGERS, LOSSY, ones),
+        (INTEGERS, EXACT, by_hand::single(4, 255)),
+    ]
+}
+
+/// The deepest blocks are what they should be. A plane of ones to be found is a test and a bit for each but the last: 511
+/// bits. The floats have a head of 2 + 5 bits and plane 31; the lossy integers 23 empty planes, plane 8, and 8 planes of 256
+/// bits.
+#[test]
+fn the_deepest_blocks() {
+    let [longest, raw, lossy, lossy_floats] = deepest().map(|(kind, mode, words)| {
+        let count = bit_count(params(kind, mode), &words);
+        (count, words)
+    });
+    assert_eq!([longest.0, raw.0, lossy.0], [Ok(8_452), Ok(7 + 511), Ok(23 + 511 + 8 * 256)]);
+    let e = floats::common_exponent(&lossy_floats.1);
+    let integers: Vec<u32> = lossy_floats.1.iter().map(|&word| floats::to_integer(e, word)).collect();
+    let coefficients = transform::to_coefficients(&integers, 4, transform::lift);
+    assert!(coefficients[0] != 0 && coefficients.iter().all(|&u| u == coefficients[0]));
+}
+
+#[test]
+fn stores_and_reads() {
+    for (kind, mode, words) in deepest().into_iter().chain(others()) {
+        let p = params(kind, mode);
+        let mut archive = vec![0; p.archive_len(1).unwrap()];
+        let mut back = vec![0; 256];
+        let name = format!("kind {kind}, mode {mode}");
+        let stored = in_a_small_thread(&format!("store, {name}"), || store(p, &mut archive, 0, &words));
+        assert_eq!(stored, bit_count(p, &words));
+        assert!(stored.is_ok());
+        let counted = in_a_small_thread(&format!("bit count, {name}"), || bit_count(p, &words));
+        assert_eq!(counted, stored);
+        assert_eq!(in_a_small_thread(&format!("read, {name}"), || read(p, &archive, 0, &mut back)), Ok(256));
+        if mode == EXACT {
+            assert_eq!(back, words);
+        }
+    }
+}
+
+/// The longest runs, of patterns that no table predicts.
+#[test]
+fn fpc_runs() {
+    let mut random = Random::new(1);
+    let run: Vec<u64> = (0..MAX_RUN_LEN).map(|_| random.bits()).collect();
+    for size in [16, 1024] {
+        let (mut f, mut d) = (vec![0; size], vec![0; size]);
+        let (mut stream, mut back) = (vec![0; MAX_STREAM_LEN], vec![0; MAX_RUN_LEN]);
+        let bytes = in_a_small_thread("FPC write", || fpc_write(&mut f, &mut d, &run, &mut stream)).unwrap();
+        let doubles = in_a_small_thread("FPC read", || fpc_read(&mut f, &mut d, &stream[..bytes], &mut back));
+        assert_eq!((doubles, &back), (Ok(MAX_RUN_LEN), &run));
+    }
+}
+
+/// Slots of ones: lossy mode reads them, and in exact mode none is a code, for 33N + 14 is more than the ones of any.
+#[test]
+fn reads_of_ones() {
+    for (kind, mode) in [(INTEGERS, LOSSY), (FLOATS, LOSSY), (INTEGERS, EXACT), (FLOATS, EXACT)] {
+        let p = params(kind, mode);
+        let archive = vec![0xFF; p.archive_len(1).unwrap()];
+        let mut back = vec![0; 256];
+        let given = in_a_small_thread(&format!("read of ones, kind {kind}, mode {mode}"), || {
+            read(p, &archive, 0, &mut back)
+        });
+        assert_eq!(given.map_err(|refusal| refusal.number()), if mode == LOSSY { Ok(256) } else { Err(11) });
+    }
+}
