@@ -1,6 +1,6 @@
 //! The counts of a comparison, for each kind, mode and dimension.
 
-use crate::classes::Class;
+use crate::classes::{Call, Class};
 use reference::Params;
 use reference::params::{Kind, Mode};
 
@@ -35,29 +35,55 @@ pub struct Row {
     pub slots: [u64; ORIGINS],
     /// Slots that both read as the same words.
     pub words_equal: u64,
-    /// Differences, by class.
-    pub classes: [u64; Class::ALL.len()],
+    written: [u64; Class::ALL.len()],
+    read: [u64; Class::ALL.len()],
+}
+
+impl Row {
+    /// Notes the class of an outcome, if it is different.
+    pub fn note(&mut self, call: Call, class: Option<Class>) {
+        let counts = match call {
+            Call::Write => &mut self.written,
+            Call::Read => &mut self.read,
+        };
+        if let Some(class) = class {
+            counts[class.index()] += 1;
+        }
+    }
+
+    /// The differences of a class.
+    pub fn count(&self, call: Call, class: Class) -> u64 {
+        match call {
+            Call::Write => self.written[class.index()],
+            Call::Read => self.read[class.index()],
+        }
+    }
+
+    /// All differences.
+    pub fn differences(&self, call: Call) -> u64 {
+        Class::ALL.iter().map(|&class| self.count(call, class)).sum()
+    }
 }
 
 /// One row for each kind, mode and dimension.
 #[derive(Clone, Debug, Default)]
 pub struct Tally {
-    rows: [Row; 8],
+    rows: [Row; 16],
 }
 
 impl Tally {
     /// The row of these parameters.
     pub fn row(&mut self, p: &Params) -> &mut Row {
-        let index = 4 * p.kind + 2 * p.mode + p.dimension - 1;
+        let index = 8 * p.kind + 4 * p.mode + p.dimension - 1;
         &mut self.rows[index as usize]
     }
 
     /// All rows, each with its kind, mode and dimension.
     pub fn rows(&self) -> impl Iterator<Item = (Kind, Mode, u32, &Row)> {
         self.rows.iter().enumerate().map(|(index, row)| {
-            let kind = if index < 4 { Kind::Integers } else { Kind::Floats };
-            let mode = if index & 2 == 0 { Mode::Lossy } else { Mode::Exact };
-            (kind, mode, 1 + (index as u32 & 1), row)
+            let kind = if index < 8 { Kind::Integers } else { Kind::Floats };
+            let mode = if index & 4 == 0 { Mode::Lossy } else { Mode::Exact };
+            (kind, mode, 1 + (index as u32 & 3), row)
         })
     }
 
@@ -65,11 +91,13 @@ impl Tally {
     pub fn complaints(&self) -> Vec<String> {
         let mut complaints = Vec::new();
         for (kind, mode, dimension, row) in self.rows() {
-            for class in Class::ALL {
-                let count = row.classes[class.index()];
-                if class.is_stated(kind, mode) != (count > 0) {
+            for (call, class) in
+                [Call::Write, Call::Read].into_iter().flat_map(|c| Class::ALL.map(|k| (c, k)))
+            {
+                let count = row.count(call, class);
+                if class.is_stated(call, kind, mode, dimension) != (count > 0) {
                     complaints.push(format!(
-                        "{kind:?}, {mode:?}, dimension {dimension}: {count} differences of class {}, {}",
+                        "{call:?}, {kind:?}, {mode:?}, dimension {dimension}: {count} differences of class {}, {}",
                         class.letter(),
                         class.name()
                     ));

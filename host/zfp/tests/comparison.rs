@@ -3,7 +3,7 @@
 use random::{Random, is_long};
 use reference::{Params, bits, planes};
 use zfp::bits::{bits_of, padded};
-use zfp::classes::Class;
+use zfp::classes::{Call, Class};
 use zfp::compare::Comparison;
 use zfp::libzfp::Libzfp;
 use zfp::report::{reading, writing};
@@ -28,11 +28,8 @@ fn is_explained(comparison: &Comparison) {
     none(&comparison.failures);
     none(&comparison.tally.complaints());
     for (_, _, _, row) in comparison.tally.rows() {
-        let count = |classes: [Class; 3]| classes.iter().map(|class| row.classes[class.index()]).sum::<u64>();
-        let written = count([Class::ScaleOverflow, Class::NotFinite, Class::TooLong]);
-        let read = count([Class::CutScan, Class::ScaleUnderflow, Class::NotACode]);
-        assert_eq!(row.codes_equal + written, row.blocks);
-        assert_eq!(row.words_equal + read, row.slots.iter().sum::<u64>());
+        assert_eq!(row.codes_equal + row.differences(Call::Write), row.blocks);
+        assert_eq!(row.words_equal + row.differences(Call::Read), row.slots.iter().sum::<u64>());
     }
 }
 
