@@ -1,6 +1,7 @@
 //! The report: tables of what was counted, and the witnesses.
 
 use crate::classes::{Call, Class};
+use crate::libzfp::Libzfp;
 use crate::tally::{Row, Tally};
 use reference::params::{Kind, Mode};
 
@@ -70,4 +71,16 @@ pub fn writing(tally: &Tally) -> Vec<String> {
 pub fn reading(tally: &Tally) -> Vec<String> {
     let titles = ["by both", "by ours", "by libzfp", "damaged", "made", "words equal"];
     with_classes(&titles, tally, Call::Read, |row| [&row.slots[..], &[row.words_equal]].concat())
+}
+
+/// The orders of coefficients.
+pub fn orders(lib: &Libzfp) -> Vec<String> {
+    let mut lines =
+        vec![line(&["dim.", "places", "other place"].map(String::from)), "|---:|---:|---:|".to_string()];
+    for dimension in 1..=4 {
+        let orders = lib.orders(dimension);
+        let numbers = [dimension as usize, orders.ours.len(), orders.different()];
+        lines.push(line(&numbers.map(|number| number.to_string())));
+    }
+    lines
 }

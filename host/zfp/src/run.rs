@@ -63,12 +63,12 @@ pub fn run(lib: Libzfp, seed: u64, scale: usize) -> Comparison {
 impl Run {
     /// How often something is done in a dimension. A comparison of larger blocks takes longer.
     fn rounds(&self, p: &Params, count: usize) -> usize {
-        (count * self.scale).div_ceil([1, 1, 10, 40][p.dimension as usize - 1])
+        (count * self.scale).div_ceil([1, 1, 5, 20][p.dimension as usize - 1])
     }
 
     /// The numbers up to `last`: all of them in dimensions 1 and 2, in the others some, of every remainder by 8.
     fn some_of(&mut self, p: &Params, last: u32) -> impl Iterator<Item = u32> + use<> {
-        let step = [1, 1, 7, 29][p.dimension as usize - 1];
+        let step = [1, 1, 5, 13][p.dimension as usize - 1];
         (16 + self.random.word_below(step)..=last).step_by(step as usize)
     }
 
