@@ -26,7 +26,7 @@ impl Orders {
         Orders { ours: transform::order(dimension), libzfps: libzfp_order(dimension) }
     }
 
-    /// How many coefficients stand elsewhere.
+    /// How many places have a coefficient of another number.
     pub fn different(&self) -> usize {
         self.ours.iter().zip(&self.libzfps).filter(|(ours, libzfps)| ours != libzfps).count()
     }
@@ -75,15 +75,15 @@ fn number_at(dimension: u32, place: usize) -> usize {
     transform::backward(&mut block, dimension, transform::sums);
     let code = encode(Shape { kind: Kind::Integers, dimension }, Setting::Reversible, &block);
     // Five bits of p - 1 and a test, then the zeros before the one. At the last place there is no one to be written.
-    let number_of_zeros = code[6..].iter().take_while(|&&bit| !bit).count();
+    let zeros = code[6..].iter().take_while(|&&bit| !bit).count();
     let mut coefficients = vec![0; len];
-    coefficients[number_of_zeros] = HIGHEST;
+    coefficients[zeros] = HIGHEST;
     assert_eq!(
         code,
         [number(0, 5), planes::code(&coefficients, 1)].concat(),
         "not the code of one coefficient"
     );
-    number_of_zeros
+    zeros
 }
 
 /// The bits of a slot, and how many of them are its code's.

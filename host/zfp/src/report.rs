@@ -75,8 +75,10 @@ pub fn reading(tally: &Tally) -> Vec<String> {
 
 /// The orders of coefficients.
 pub fn orders(lib: &Libzfp) -> Vec<String> {
-    let mut lines =
-        vec![line(&["dim.", "places", "other place"].map(String::from)), "|---:|---:|---:|".to_string()];
+    let mut lines = vec![
+        line(&["dim.", "places", "of another number"].map(String::from)),
+        "|---:|---:|---:|".to_string(),
+    ];
     for dimension in 1..=4 {
         let orders = lib.orders(dimension);
         let numbers = [dimension as usize, orders.ours.len(), orders.different()];

@@ -87,14 +87,16 @@ pub const WITNESSES: [Witness; 13] = [
     witness(Class::TieOrder, CUBE, Input::OurSlot(&ODD)),
 ];
 
-/// Eight words a line, the first line after a label.
+/// Eight words a line, the first line after a label. Equal lines are counted.
 fn with_words(label: &str, words: &[u32]) -> Vec<String> {
-    let margin = " ".repeat(label.len());
-    words
-        .chunks(8)
-        .enumerate()
-        .map(|(line, words)| format!("{}{}", if line == 0 { label } else { &margin }, hex_words(words)))
-        .collect()
+    let lines: Vec<&[u32]> = words.chunks(8).collect();
+    let mut out = Vec::new();
+    for equal in lines.chunk_by(|line, next| line == next) {
+        let label = if out.is_empty() { label.to_string() } else { " ".repeat(label.len()) };
+        let times = if equal.len() == 1 { String::new() } else { format!(", {} times", equal.len()) };
+        out.push(format!("{label}{}{times}", hex_words(equal[0])));
+    }
+    out
 }
 
 impl Witness {
