@@ -37,6 +37,11 @@ pub enum Call {
     Read,
 }
 
+impl Call {
+    /// Both of them.
+    pub const ALL: [Call; 2] = [Call::Write, Call::Read];
+}
+
 impl Class {
     /// All of them, in the order of their letters.
     pub const ALL: [Class; 7] = [
@@ -94,14 +99,14 @@ impl Class {
             Class::CutScan => mode == Mode::Lossy,
             Class::NotFinite => kind == Kind::Floats && mode == Mode::Lossy,
             Class::TooLong | Class::NotACode => mode == Mode::Exact,
-            Class::TieOrder => has_ties(dimension),
+            Class::TieOrder => ties_differ(dimension),
         };
         of_blocks && self.calls().contains(&call)
     }
 }
 
-/// The condition of [`Class::TieOrder`] on the dimension: up to 2, document 01 and libzfp break ties alike.
-pub fn has_ties(dimension: u32) -> bool {
+/// The condition of [`Class::TieOrder`]: up to dimension 2, document 01 and libzfp order ties alike.
+pub fn ties_differ(dimension: u32) -> bool {
     dimension > 2
 }
 

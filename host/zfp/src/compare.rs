@@ -1,7 +1,7 @@
 //! One block or one slot handed to the proved library, to libzfp and to the reference.
 
 use crate::bits::{bits_of, bytes_of, hex, hex_words, padded};
-use crate::classes::{Call, Class, Head, has_ties, scale_overflows, scale_underflows, some_not_finite};
+use crate::classes::{Call, Class, Head, scale_overflows, scale_underflows, some_not_finite, ties_differ};
 use crate::expected::{Code, Rules, followed_by_zeros, words_read, written};
 use crate::libzfp::{Libzfp, Setting, checked, setting, shape};
 use crate::order::{Reordered, reordered};
@@ -155,12 +155,12 @@ impl Comparison {
         let (class, holds) = match reply.answer {
             0 if same => (None, true),
             0 if slot.is_some_and(remains) => (Some(Class::ScaleOverflow), overflows),
-            0 => (Some(Class::TieOrder), has_ties(c.dimension)),
+            0 => (Some(Class::TieOrder), ties_differ(c.dimension)),
             9 => (Some(Class::NotFinite), c.kind == Kind::Floats && some_not_finite(words)),
             // What is longer than W is longer for both, and by the same bits, unless the scale overflows or the order
             // makes another length.
             10 => {
-                let alike = count == theirs.len() || overflows || has_ties(c.dimension);
+                let alike = count == theirs.len() || overflows || ties_differ(c.dimension);
                 (Some(Class::TooLong), alike && count > c.width)
             }
             _ => (None, false),
@@ -213,7 +213,7 @@ impl Comparison {
             words_read(&c, slot, Rules { cut_scan, underflow, ..Rules::DOCUMENT_01 }) != words
         };
         let class = if !changes(true, true) {
-            has_ties(c.dimension).then_some(Class::TieOrder)
+            ties_differ(c.dimension).then_some(Class::TieOrder)
         } else if changes(false, true) {
             Some(Class::ScaleUnderflow)
         } else {

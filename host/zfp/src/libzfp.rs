@@ -8,7 +8,7 @@ use reference::params::{Checked, Kind, Mode};
 /// The bytes of every buffer lent to libzfp: 8,462 bits of a slot and much more.
 pub const ROOM: usize = 4_096;
 
-/// The most bits of a code of any kind and mode: 32 planes of at most 33N - 1 bits and a head of at most 15.
+/// The most bits of a code of any kind and mode: 33N - 1 for 32 planes, and a head of 15.
 pub fn longest_code(dimension: u32) -> usize {
     33 * 4usize.pow(dimension) + 14
 }

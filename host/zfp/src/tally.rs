@@ -35,33 +35,25 @@ pub struct Row {
     pub slots: [u64; ORIGINS],
     /// Slots that both read as the same words.
     pub words_equal: u64,
-    written: [u64; Class::ALL.len()],
-    read: [u64; Class::ALL.len()],
+    classes: [[u64; Class::ALL.len()]; Call::ALL.len()],
 }
 
 impl Row {
     /// Notes the class of an outcome, if it is different.
     pub fn note(&mut self, call: Call, class: Option<Class>) {
-        let counts = match call {
-            Call::Write => &mut self.written,
-            Call::Read => &mut self.read,
-        };
         if let Some(class) = class {
-            counts[class.index()] += 1;
+            self.classes[call as usize][class.index()] += 1;
         }
     }
 
     /// The differences of a class.
     pub fn count(&self, call: Call, class: Class) -> u64 {
-        match call {
-            Call::Write => self.written[class.index()],
-            Call::Read => self.read[class.index()],
-        }
+        self.classes[call as usize][class.index()]
     }
 
     /// All differences.
     pub fn differences(&self, call: Call) -> u64 {
-        Class::ALL.iter().map(|&class| self.count(call, class)).sum()
+        self.classes[call as usize].iter().sum()
     }
 }
 
@@ -90,10 +82,9 @@ impl Tally {
     /// What is wrong with the classes: one that is stated and never occurs, or occurs where it is not stated.
     pub fn complaints(&self) -> Vec<String> {
         let mut complaints = Vec::new();
+        let every = || Call::ALL.into_iter().flat_map(|call| Class::ALL.map(|class| (call, class)));
         for (kind, mode, dimension, row) in self.rows() {
-            for (call, class) in
-                [Call::Write, Call::Read].into_iter().flat_map(|c| Class::ALL.map(|k| (c, k)))
-            {
+            for (call, class) in every() {
                 let count = row.count(call, class);
                 if class.is_stated(call, kind, mode, dimension) != (count > 0) {
                     complaints.push(format!(
