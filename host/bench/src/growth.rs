@@ -2,13 +2,10 @@
 //!
 //! All points of a table are measured in one set of rounds, so that what disturbs one disturbs all.
 
-use crate::data::{Data, blocks, doubles};
-use crate::timing::{Work, measure};
+use crate::data::{DIMENSIONS, Data, blocks, blocks_in_archive, doubles};
+use crate::timing::{Times, Work, measure};
 use std::hint::black_box;
-use windlassow::{Dimension, Kind, Params};
-
-/// The blocks of a pass: enough that the processor does not learn their branches.
-const BLOCKS: usize = 256;
+use windlassow::{Dimension, Kind, MAX_ARCHIVE_LEN, Params};
 
 /// Random integers stored in an archive from some slot on, and read from there.
 struct Point {
@@ -17,20 +14,20 @@ struct Point {
     first: usize,
     words: Vec<u32>,
     archive: Vec<u8>,
-    back: [u32; 16],
+    back: Vec<u32>,
 }
 
 impl Point {
     fn new(params: Params, dimension: Dimension, archive_len: usize, first: usize) -> Point {
-        let words = blocks(Kind::Integers, dimension, Data::Random, BLOCKS);
-        Point {
-            params,
-            len: dimension.block_len(),
-            first,
-            words,
-            archive: vec![0; archive_len],
-            back: [0; 16],
-        }
+        let width = params.slot_bits().expect("the parameters are good");
+        let (len, count) = (dimension.block_len(), blocks_in_archive(width));
+        let words = blocks(Kind::Integers, dimension, Data::Random, count);
+        Point { params, len, first, words, archive: vec![0; archive_len], back: vec![0; len] }
+    }
+
+    /// The number of blocks.
+    fn count(&self) -> usize {
+        self.words.len() / self.len
     }
 
     fn store(&mut self) {
@@ -41,9 +38,8 @@ impl Point {
     }
 
     fn read(&mut self) {
-        for slot in 0..BLOCKS {
-            let reply =
-                windlassow::read(self.params, &self.archive, self.first + slot, &mut self.back[..self.len]);
+        for slot in 0..self.count() {
+            let reply = windlassow::read(self.params, &self.archive, self.first + slot, &mut self.back);
             black_box(reply).expect("the slot is good");
         }
     }
@@ -53,33 +49,34 @@ impl Point {
 fn times(mut points: Vec<Point>) -> Vec<[f64; 2]> {
     let mut stores: Vec<Work> =
         points.iter_mut().map(|point| -> Work { Box::new(|| point.store()) }).collect();
-    let stored = measure(&mut stores, BLOCKS);
+    let stored = measure(&mut stores, 1);
     drop(stores);
     let mut reads: Vec<Work> = points.iter_mut().map(|point| -> Work { Box::new(|| point.read()) }).collect();
-    let read = measure(&mut reads, BLOCKS);
+    let read = measure(&mut reads, 1);
     drop(reads);
-    (0..points.len()).map(|point| [stored.median(point), read.median(point)]).collect()
+    let a_block = |place: usize, times: &Times| times.median(place) / points[place].count() as f64;
+    (0..points.len()).map(|place| [a_block(place, &stored), a_block(place, &read)]).collect()
 }
 
-/// N from 4 to 16, with every plane coded.
+/// N from 4 to 256, with every plane coded and slots that just take every code.
 pub fn with_words() {
-    println!("Growth with N: random integers, nanoseconds a block and a word; x: 16 words over 4");
-    println!("{:<24} {:>9} {:>9} {:>9} {:>9} {:>6}", "", "4 words", "a word", "16 words", "a word", "x");
-    let both = [Dimension::One, Dimension::Two];
-    let exact = both.map(|dimension| Point::new(Params::exact_integers(dimension), dimension, 65_536, 0));
-    let lossy =
-        both.map(|dimension| Point::new(Params::lossy_integers(dimension, 32, 1024), dimension, 65_536, 0));
-    let times = times(exact.into_iter().chain(lossy).collect());
-    for (place, mode) in ["exact", "lossy"].into_iter().enumerate() {
+    println!("Growth with N: random integers, slots of 33N + 4 bits, nanoseconds a block and a word");
+    print!("{:<12}", "");
+    for dimension in DIMENSIONS {
+        print!(" {:>10} {:>7}", format!("{} words", dimension.block_len()), "a word");
+    }
+    println!();
+    let exact = DIMENSIONS.map(Params::exact_integers);
+    let lossy = exact.map(|p| Params::lossy_integers(p.dimension().expect("it is good"), 32, p.width()));
+    let points = DIMENSIONS.iter().cycle().zip(exact.into_iter().chain(lossy));
+    let points = points.map(|(&dimension, params)| Point::new(params, dimension, MAX_ARCHIVE_LEN, 0));
+    for (mode, times) in ["exact", "lossy"].iter().zip(times(points.collect()).chunks_exact(4)) {
         for (call, name) in ["store", "read"].into_iter().enumerate() {
-            let (four, sixteen) = (times[2 * place][call], times[2 * place + 1][call]);
-            println!(
-                "{:<24} {four:>9.0} {:>9.1} {sixteen:>9.0} {:>9.1} {:>6.2}",
-                format!("{mode} {name}"),
-                four / 4.0,
-                sixteen / 16.0,
-                sixteen / four
-            );
+            print!("{:<12}", format!("{mode} {name}"));
+            for (dimension, times) in DIMENSIONS.iter().zip(times) {
+                print!(" {:>10.0} {:>7.1}", times[call], times[call] / dimension.block_len() as f64);
+            }
+            println!();
         }
     }
     println!();
@@ -95,18 +92,23 @@ fn further(costs: &[f64], steps: &[usize], place: usize) -> String {
 
 /// Planes from 1 to 32, in slots that hold all of them.
 pub fn with_planes() {
-    println!("Growth with p: lossy random integers in slots of 1024 bits, nanoseconds a block,");
+    let dimensions = [Dimension::One, Dimension::Two, Dimension::Four];
+    println!("Growth with p: lossy random integers in slots of 33N + 4 bits, nanoseconds a block,");
     println!("and for each further plane");
-    println!("{:>6}   {:<37}   16 words", "", "4 words");
-    print!("{:>6}", "planes");
-    (0..2).for_each(|_| print!("   {:>8} {:>9} {:>8} {:>9}", "store", "further", "read", "further"));
+    print!("{:>6}", "");
+    dimensions.iter().for_each(|dimension| print!("   {:<37}", format!("{} words", dimension.block_len())));
+    print!("\n{:>6}", "planes");
+    dimensions
+        .iter()
+        .for_each(|_| print!("   {:>8} {:>9} {:>8} {:>9}", "store", "further", "read", "further"));
     println!();
     let planes = [1, 2, 4, 8, 12, 16, 20, 24, 28, 32];
-    let columns: Vec<Vec<f64>> = [Dimension::One, Dimension::Two]
+    let columns: Vec<Vec<f64>> = dimensions
         .into_iter()
         .flat_map(|dimension| {
-            let params = planes.map(|p| Params::lossy_integers(dimension, p as u32, 1024));
-            let times = times(params.map(|p| Point::new(p, dimension, BLOCKS * 128, 0)).into());
+            let width = Params::exact_integers(dimension).width();
+            let params = planes.map(|p| Params::lossy_integers(dimension, p as u32, width));
+            let times = times(params.map(|p| Point::new(p, dimension, MAX_ARCHIVE_LEN, 0)).into());
             [0, 1].map(|call| times.iter().map(|time| time[call]).collect())
         })
         .collect();
@@ -130,6 +132,7 @@ pub fn with_width_and_archive() {
         (256, 32_768, 0),
         (512, 32_768, 0),
         (1024, 32_768, 0),
+        (8462, 65_536, 0),
         (137, 65_536, 0),
         (136, 65_536, 0),
         (136, 65_536, 3_599),
@@ -138,8 +141,17 @@ pub fn with_width_and_archive() {
         let params = Params::exact_integers(Dimension::One).with_width(width);
         Point::new(params, Dimension::One, archive_len, first)
     });
-    for ((width, archive_len, first), [store, read]) in settings.into_iter().zip(times(points.into())) {
+    let times = times(points.into());
+    for ((width, archive_len, first), [store, read]) in settings.iter().zip(&times) {
         println!("{width:>6} {archive_len:>14} {first:>12} {store:>8.0} {read:>8.0}");
+    }
+    let padding = f64::from(settings[4].0 - settings[0].0) / 8.0;
+    for (call, name) in ["store", "read"].into_iter().enumerate() {
+        let (narrow, wide) = (times[0][call], times[4][call]);
+        println!(
+            "A {name} of 4 words: {narrow:.0} at W = 136; at W = 8462 {wide:.0}, of which {:.2} a byte of padding",
+            (wide - narrow) / padding
+        );
     }
     println!();
 }

@@ -19,7 +19,8 @@ upper quartile). Below 1, the proved library is faster.
 Archives are zeroed once; each later pass stores the same blocks over what the one before it left.
 An exact read of the proved library also tells whether the slot is some block's padded code (answer 11), and the
 reference codes the block again for that; libzfp does neither. libzfp goes through one open stream, slot after slot.
-All programs write the same bytes, which is checked before the time is taken.
+All programs write the same bytes, which is checked before the time is taken. In blocks of 64 and 256 words libzfp has
+another order of coefficients; there its bytes are held to that order.
 ";
 
 fn main() {

@@ -1,13 +1,12 @@
 //! Blocks stored in the slots of an archive, and read from them.
 
-use crate::data::{Data, blocks};
+use crate::data::{DIMENSIONS, Data, blocks, blocks_in_archive};
 use crate::timing::{Times, Work, measure, spread};
 use std::hint::black_box;
 use windlassow::{Dimension, Kind, Mode, Params};
-use zfp::libzfp::{Libzfp, Stream};
-
-/// The blocks of one archive.
-const BLOCKS: usize = 256;
+use zfp::bits::{bytes_of, padded};
+use zfp::expected::{Code, written};
+use zfp::libzfp::{Libzfp, Stream, checked};
 
 /// P of the lossy blocks: the width alone cuts them.
 const PLANES: u32 = 32;
@@ -22,16 +21,17 @@ struct Case {
 }
 
 impl Case {
-    /// Slots that every exact block fits, or of 16 bits a value (4 words) and of 8 (16 words) for lossy ones.
+    /// Slots that every exact block fits, or of 16 bits a value (4 words) and of 8 (more words) for lossy ones.
     fn new(kind: Kind, dimension: Dimension, mode: Mode, data: Data) -> Case {
         let n = dimension.block_len() as u32;
         let width = match (mode, kind, dimension) {
             (Mode::Exact, Kind::Integers, _) => 33 * n + 4,
             (Mode::Exact, Kind::Floats, _) => 33 * n + 14,
             (Mode::Lossy, _, Dimension::One) => 16 * n,
-            (Mode::Lossy, _, Dimension::Two) => 8 * n,
+            (Mode::Lossy, _, _) => 8 * n,
         };
-        Case { kind, dimension, mode, width, words: blocks(kind, dimension, data, BLOCKS) }
+        let words = blocks(kind, dimension, data, blocks_in_archive(width as usize));
+        Case { kind, dimension, mode, width, words }
     }
 
     fn params(&self) -> Params {
@@ -49,11 +49,16 @@ impl Case {
     }
 
     fn archive_len(&self) -> usize {
-        (BLOCKS * self.width as usize).div_ceil(8)
+        (self.count() * self.width as usize).div_ceil(8)
     }
 
     fn block_len(&self) -> usize {
         self.dimension.block_len()
+    }
+
+    /// The number of blocks.
+    fn count(&self) -> usize {
+        self.words.len() / self.block_len()
     }
 
     fn store(&self, archive: &mut [u8]) {
@@ -82,40 +87,47 @@ impl Case {
         }
     }
 
-    /// An archive that all programs write alike.
-    fn archive(&self, lib: Option<&Libzfp>) -> Vec<u8> {
+    /// An archive that the proved library and the reference write alike.
+    fn archive(&self) -> Vec<u8> {
         let mut archive = vec![0; self.archive_len()];
         let mut expected = archive.clone();
         self.store(&mut archive);
         self.reference_store(&mut expected);
         assert!(archive == expected, "the reference stores otherwise");
-        if let Some(stream) = self.stream(lib) {
-            assert!(archive == stream.bytes(archive.len()), "libzfp stores otherwise");
-        }
         archive
     }
 
-    /// libzfp's stream of the blocks.
+    /// libzfp's stream of the blocks: the same slots, with the coefficients in libzfp's order.
     fn stream(&self, lib: Option<&Libzfp>) -> Option<Stream> {
-        let mut stream = lib?.stream(&self.reference_params(), BLOCKS);
+        let lib = lib?;
+        let params = checked(&self.reference_params());
+        let mut stream = lib.stream(&self.reference_params(), self.count());
         stream.encode(&self.words);
+        let slots = self.words.chunks_exact(self.block_len()).flat_map(|words| {
+            let Code::Known(code) = written(&params, words, Some(lib.orders(params.dimension))) else {
+                unreachable!("the values are neither tiny nor infinite")
+            };
+            padded(&code, params.width)
+        });
+        let expected = bytes_of(&slots.collect::<Vec<_>>());
+        assert!(stream.bytes(expected.len()) == expected, "libzfp stores otherwise");
         Some(stream)
     }
 
     /// The time of a store by each program.
     fn time_store(&self, lib: Option<&Libzfp>) -> Times {
-        let (mut ours, mut theirs) = (self.archive(lib), self.archive(lib));
+        let (mut ours, mut theirs) = (self.archive(), self.archive());
         let mut programs: Vec<Work> =
             vec![Box::new(|| self.store(&mut ours)), Box::new(|| self.reference_store(&mut theirs))];
         if let Some(mut stream) = self.stream(lib) {
             programs.push(Box::new(move || stream.encode(black_box(&self.words))));
         }
-        measure(&mut programs, BLOCKS)
+        measure(&mut programs, self.count())
     }
 
     /// The time of a read by each program.
     fn time_read(&self, lib: Option<&Libzfp>) -> Times {
-        let archive = self.archive(lib);
+        let archive = self.archive();
         let mut buffers = vec![vec![0u32; self.words.len()]; 3];
         let [ours, theirs, libzfps] = &mut buffers[..] else { unreachable!() };
         let mut programs: Vec<Work> = vec![
@@ -125,9 +137,13 @@ impl Case {
         if let Some(mut stream) = self.stream(lib) {
             programs.push(Box::new(move || stream.decode(libzfps)));
         }
-        let times = measure(&mut programs, BLOCKS);
+        let times = measure(&mut programs, self.count());
         drop(programs);
         assert!(buffers[0] == buffers[1], "the reference reads otherwise");
+        if self.mode == Mode::Exact {
+            let all_back = buffers[..times.programs()].iter().all(|words| words == &self.words);
+            assert!(all_back, "an exact block does not come back");
+        }
         times
     }
 }
@@ -143,9 +159,9 @@ fn row(name: &str, times: &Times) {
 
 /// The table of stores and reads: every kind, mode and dimension.
 pub fn table(lib: Option<&Libzfp>) {
-    println!("Blocks, nanoseconds a block, {BLOCKS} blocks in an archive");
+    println!("Blocks, nanoseconds a block, 256 blocks in an archive, or as many as 65,536 bytes take");
     println!(
-        "  exact: slots of 33N + 4 or 33N + 14 bits; lossy: P = 32, 16 bits a value (4 words), 8 (16 words)"
+        "  exact: slots of 33N + 4 or 33N + 14 bits; lossy: P = 32, 16 bits a value (4 words), 8 (more words)"
     );
     println!(
         "{:<37} {:>7} {:>7} {:>7}   {:<22} proved/libzfp",
@@ -153,11 +169,11 @@ pub fn table(lib: Option<&Libzfp>) {
     );
     for mode in [Mode::Exact, Mode::Lossy] {
         for kind in [Kind::Integers, Kind::Floats] {
-            for dimension in [Dimension::One, Dimension::Two] {
+            for dimension in DIMENSIONS {
                 for data in [Data::Smooth, Data::Random] {
                     let case = Case::new(kind, dimension, mode, data);
                     let name =
-                        format!("{mode:?} {kind:?} {:>2} words {}", dimension.block_len(), data.name());
+                        format!("{mode:?} {kind:?} {:>3} words {}", dimension.block_len(), data.name());
                     row(&format!("{} store", name.to_lowercase()), &case.time_store(lib));
                     row(&format!("{} read", name.to_lowercase()), &case.time_read(lib));
                 }

@@ -1,6 +1,6 @@
 //! Lists of bits and the bytes that hold them: stream bit t is bit t mod 8 of byte t / 8.
 
-use reference::bits::{get, set};
+use reference::bits::get;
 
 /// The first bits of some bytes.
 pub fn bits_of(bytes: &[u8], count: usize) -> Vec<bool> {
@@ -9,11 +9,7 @@ pub fn bits_of(bytes: &[u8], count: usize) -> Vec<bool> {
 
 /// The bytes that hold these bits, with zeros in the last.
 pub fn bytes_of(bits: &[bool]) -> Vec<u8> {
-    let mut bytes = vec![0; bits.len().div_ceil(8)];
-    for (t, &bit) in bits.iter().enumerate() {
-        set(&mut bytes, t, bit);
-    }
-    bytes
+    bits.chunks(8).map(|byte| byte.iter().rev().fold(0, |low, &bit| low << 1 | u8::from(bit))).collect()
 }
 
 /// A code followed by zeros up to the width of a slot, or the code itself if it is longer.

@@ -23,18 +23,50 @@ pub enum Class {
     TooLong,
     /// Row 11: an exact slot that no block has produced. libzfp reads every slot.
     NotACode,
+    /// Dimensions 3 and 4: coefficients of equal sums of indices and of squares stand in libzfp's own order. A
+    /// difference is of this class exactly if none is left in document 02's order. See [`crate::order`].
+    TieOrder,
+}
+
+/// What both programs do.
+#[derive(Clone, Copy, Debug, PartialEq, Eq)]
+pub enum Call {
+    /// Write a block.
+    Write,
+    /// Read a slot.
+    Read,
+}
+
+impl Call {
+    /// Both of them.
+    pub const ALL: [Call; 2] = [Call::Write, Call::Read];
 }
 
 impl Class {
     /// All of them, in the order of their letters.
-    pub const ALL: [Class; 6] = [
+    pub const ALL: [Class; 7] = [
         Class::ScaleOverflow,
         Class::CutScan,
         Class::ScaleUnderflow,
         Class::NotFinite,
         Class::TooLong,
         Class::NotACode,
+        Class::TieOrder,
     ];
+
+    /// The classes of a call, as the report has them.
+    pub fn of(call: Call) -> Vec<Class> {
+        Class::ALL.into_iter().filter(|class| class.calls().contains(&call)).collect()
+    }
+
+    /// The calls whose outcomes can be of the class.
+    fn calls(self) -> &'static [Call] {
+        match self {
+            Class::ScaleOverflow | Class::NotFinite | Class::TooLong => &[Call::Write],
+            Class::CutScan | Class::ScaleUnderflow | Class::NotACode => &[Call::Read],
+            Class::TieOrder => &[Call::Write, Call::Read],
+        }
+    }
 
     /// The place in [`Class::ALL`].
     pub fn index(self) -> usize {
@@ -49,25 +81,33 @@ impl Class {
     /// A short name.
     pub fn name(self) -> &'static str {
         match self {
-            Class::ScaleOverflow => "scale overflow (writing)",
-            Class::CutScan => "cut scan (reading)",
-            Class::ScaleUnderflow => "scale underflow (reading)",
-            Class::NotFinite => "answer 9 (writing)",
-            Class::TooLong => "answer 10 (writing)",
-            Class::NotACode => "answer 11 (reading)",
+            Class::ScaleOverflow => "scale overflow",
+            Class::CutScan => "cut scan",
+            Class::ScaleUnderflow => "scale underflow",
+            Class::NotFinite => "answer 9",
+            Class::TooLong => "answer 10",
+            Class::NotACode => "answer 11",
+            Class::TieOrder => "order of ties",
         }
     }
 
-    /// Whether the class is stated for blocks of this kind in this mode. There it must occur, in both dimensions;
+    /// Whether the class is stated for this call with blocks of this kind, mode and dimension. There it must occur;
     /// elsewhere it must not.
-    pub fn is_stated(self, kind: Kind, mode: Mode) -> bool {
-        match self {
+    pub fn is_stated(self, call: Call, kind: Kind, mode: Mode, dimension: u32) -> bool {
+        let of_blocks = match self {
             Class::ScaleOverflow | Class::ScaleUnderflow => kind == Kind::Floats,
             Class::CutScan => mode == Mode::Lossy,
             Class::NotFinite => kind == Kind::Floats && mode == Mode::Lossy,
             Class::TooLong | Class::NotACode => mode == Mode::Exact,
-        }
+            Class::TieOrder => ties_differ(dimension),
+        };
+        of_blocks && self.calls().contains(&call)
     }
+}
+
+/// The condition of [`Class::TieOrder`]: up to dimension 2, document 01 and libzfp order ties alike.
+pub fn ties_differ(dimension: u32) -> bool {
+    dimension > 2
 }
 
 /// The largest power of two of binary32 is 2^127.

@@ -1,9 +1,10 @@
 //! One block or one slot handed to the proved library, to libzfp and to the reference.
 
 use crate::bits::{bits_of, bytes_of, hex, hex_words, padded};
-use crate::classes::{Class, Head, scale_overflows, scale_underflows, some_not_finite};
-use crate::expected::{Rules, words_read, written};
+use crate::classes::{Call, Class, Head, scale_overflows, scale_underflows, some_not_finite, ties_differ};
+use crate::expected::{Code, Rules, followed_by_zeros, words_read, written};
 use crate::libzfp::{Libzfp, Setting, checked, setting, shape};
+use crate::order::{Reordered, reordered};
 use crate::tally::{Origin, Tally};
 use reference::params::{Checked, Kind, Mode};
 use reference::{Params, Reply};
@@ -108,7 +109,7 @@ impl Comparison {
         let counted = windlassow::bit_count(ours(p), words).unwrap_or(0);
         self.must(counted == reply.count as usize, "store and bit count differ", p, || hex_words(words));
         let theirs = self.lib.encode(shape(&c), setting(&c), words);
-        let foretold = written(&c, words).holds(&theirs);
+        let foretold = written(&c, words, Some(self.lib.orders(c.dimension))).holds(&theirs);
         self.must(foretold, "libzfp's code is not the one expected", p, || hex_words(words));
         self.check_limits(p, &c, words, &theirs);
         let slot = (reply.answer == 0).then(|| bits_of(&archive, c.width));
@@ -117,9 +118,7 @@ impl Comparison {
         row.blocks += 1;
         row.codes_equal += u64::from(class.is_none());
         row.counts_equal += u64::from(reply.answer != 9 && reply.count as usize == theirs.len());
-        if let Some(class) = class {
-            row.classes[class.index()] += 1;
-        }
+        row.note(Call::Write, class);
         Written { reply, ours: slot, theirs, class }
     }
 
@@ -138,6 +137,7 @@ impl Comparison {
         self.must(same, "libzfp within the slot's width writes otherwise", p, || hex_words(words));
     }
 
+    /// A difference that would be there in our order too is the overflow's; one that goes with the order, the order's.
     fn class_of_writing(
         &mut self,
         p: &Params,
@@ -147,20 +147,25 @@ impl Comparison {
         theirs: &[bool],
     ) -> Option<Class> {
         let c = checked(p);
-        let same =
-            slot.is_some_and(|slot| slot == padded(theirs, c.width)) && reply.count as usize == theirs.len();
+        let count = reply.count as usize;
+        let same = slot.is_some_and(|slot| slot == padded(theirs, c.width)) && count == theirs.len();
         let overflows = c.kind == Kind::Floats && scale_overflows(words);
+        let remains =
+            |slot: &[bool]| !matches!(written(&c, words, None), Code::Known(code) if code == slot[..count]);
         let (class, holds) = match reply.answer {
             0 if same => (None, true),
-            0 => (Some(Class::ScaleOverflow), overflows),
+            0 if slot.is_some_and(remains) => (Some(Class::ScaleOverflow), overflows),
+            0 => (Some(Class::TieOrder), ties_differ(c.dimension)),
             9 => (Some(Class::NotFinite), c.kind == Kind::Floats && some_not_finite(words)),
-            10 => (Some(Class::TooLong), theirs.len() > c.width || overflows),
+            // What is longer than W is longer for both, and by the same bits, unless the scale overflows or the order
+            // makes another length.
+            10 => {
+                let alike = count == theirs.len() || overflows || ties_differ(c.dimension);
+                (Some(Class::TooLong), alike && count > c.width)
+            }
             _ => (None, false),
         };
         self.must(holds, "a difference of no class in writing", p, || hex_words(words));
-        // What is longer than W is longer for both, and by the same bits, unless the scale overflows.
-        let alike = reply.answer != 10 || overflows || reply.count as usize == theirs.len();
-        self.must(alike, "the bits needed are not libzfp's", p, || hex_words(words));
         class
     }
 
@@ -174,23 +179,22 @@ impl Comparison {
         let agreed = reply == reference::read(p, &archive, 0, &mut expected) && words == expected;
         self.must(agreed, "the reference reads otherwise", p, || hex(slot));
         let (theirs, taken) = self.lib.decode(shape(&c), setting(&c), slot);
-        let foretold = theirs == words_read(&c, slot, Rules::LIBZFP);
+        let foretold = theirs == words_read(&c, slot, Rules::libzfp(self.lib.orders(c.dimension)));
         self.must(foretold, "libzfp's words are not the ones expected", p, || hex(slot));
         let words = (reply.answer == 0).then_some(words);
         let class = self.class_of_reading(p, slot, words.as_deref(), &theirs);
         if c.mode == Mode::Exact {
-            self.check_refusal(p, &c, slot, reply, &theirs);
+            self.check_refusal(p, &c, slot, reply);
         }
         let row = self.tally.row(p);
         row.slots[origin as usize] += 1;
         row.words_equal += u64::from(words.as_ref() == Some(&theirs));
-        if let Some(class) = class {
-            row.classes[class.index()] += 1;
-        }
+        row.note(Call::Read, class);
         Read { reply, ours: words, theirs, taken, class }
     }
 
-    /// Where both classes of reading apply, the difference is the underflow's if that alone makes one.
+    /// A difference that would be there in our order too is the underflow's if that alone makes one, else the cut
+    /// scan's; one that goes with the order, the order's.
     fn class_of_reading(
         &mut self,
         p: &Params,
@@ -205,27 +209,32 @@ impl Comparison {
         if words == theirs {
             return None;
         }
-        let changes = |rules| words_read(&c, slot, rules) != words;
-        let class = if changes(Rules { underflow: true, ..Rules::DOCUMENT_01 }) {
+        let changes = |cut_scan, underflow| {
+            words_read(&c, slot, Rules { cut_scan, underflow, ..Rules::DOCUMENT_01 }) != words
+        };
+        let class = if !changes(true, true) {
+            ties_differ(c.dimension).then_some(Class::TieOrder)
+        } else if changes(false, true) {
             Some(Class::ScaleUnderflow)
-        } else if changes(Rules { cut_scan: true, ..Rules::DOCUMENT_01 }) {
-            Some(Class::CutScan)
         } else {
-            None
+            changes(true, false).then_some(Class::CutScan)
         };
         self.must(class.is_some(), "a difference of no class in reading", p, || hex(slot));
         class
     }
 
     /// Row 11 with libzfp as the judge: a slot is some block's exactly if libzfp writes it again for what it reads
-    /// from it. That cannot be asked where one of the scales fails.
-    fn check_refusal(&mut self, p: &Params, c: &Checked, slot: &[bool], reply: Reply, theirs: &[u32]) {
+    /// from it, both in libzfp's order. That cannot be asked where one of the scales fails.
+    fn check_refusal(&mut self, p: &Params, c: &Checked, slot: &[bool], reply: Reply) {
+        let orders = self.lib.orders(c.dimension);
+        let Reordered { bits, taken } = reordered(c, &followed_by_zeros(c, slot), orders);
+        let (words, _) = self.lib.decode(shape(c), Setting::Reversible, &bits);
         let e = Head::of(c, slot).and_then(|head| head.e);
-        if c.kind == Kind::Floats && (scale_overflows(theirs) || e.is_some_and(scale_underflows)) {
+        if c.kind == Kind::Floats && (scale_overflows(&words) || e.is_some_and(scale_underflows)) {
             return;
         }
-        let again = self.lib.encode(shape(c), Setting::Reversible, theirs);
-        let is_code = padded(&again, c.width) == slot;
+        let again = self.lib.encode(shape(c), Setting::Reversible, &words);
+        let is_code = taken <= c.width && padded(&again, bits.len()) == bits;
         self.must(is_code == (reply.answer == 0), "libzfp judges row 11 otherwise", p, || hex(slot));
     }
 }

@@ -5,7 +5,8 @@
 
 use crate::bits::padded;
 use crate::classes::{Head, cut_scan, scale_overflows, scale_underflows};
-use crate::libzfp::ROOM;
+use crate::libzfp::longest_code;
+use crate::order::{Orders, reordered};
 use reference::code::encode;
 use reference::floats::{common_exponent, to_pattern};
 use reference::params::{Checked, Kind, Mode};
@@ -36,8 +37,21 @@ impl Code {
 /// The integer that an x86-64 makes of an infinity or a NaN. C leaves the conversion undefined.
 const CONVERTED: Option<u32> = if cfg!(target_arch = "x86_64") { Some(0x8000_0000) } else { None };
 
-/// What libzfp writes for a block.
-pub fn written(p: &Checked, words: &[u32]) -> Code {
+/// What libzfp writes for a block, in its own order of coefficients if the orders are given, else in document 01's.
+pub fn written(p: &Checked, words: &[u32], orders: Option<&Orders>) -> Code {
+    // The whole code first: a cut one cannot be put into another order.
+    let whole = Checked { width: longest_code(p.dimension), ..*p };
+    let code = match (written_whole(&whole, words), orders) {
+        (Code::Known(code), Some(orders)) => reordered(p, &code, orders).bits,
+        (Code::Known(code), None) => code,
+        (other, _) => return other,
+    };
+    let budget = if p.mode == Mode::Lossy { p.width } else { code.len() };
+    Code::Known(code[..code.len().min(budget)].to_vec())
+}
+
+/// The same in document 01's order.
+fn written_whole(p: &Checked, words: &[u32]) -> Code {
     if p.kind == Kind::Integers {
         return Code::Known(encode(p, words));
     }
@@ -77,24 +91,34 @@ fn reinterpreted(p: &Checked, words: &[u32]) -> Vec<bool> {
 
 /// Which of the classes of reading are in force.
 #[derive(Clone, Copy, Debug)]
-pub struct Rules {
+pub struct Rules<'a> {
     /// A cut scan sets the bit at the place that it has come to.
     pub cut_scan: bool,
     /// A scale below 2^-149 is 0. In exact mode e = 0, which no writer writes, gives +0s whatever follows; libzfp's
     /// documentation is silent about that, and we know it from trying it.
     pub underflow: bool,
+    /// The coefficients stand in libzfp's order.
+    pub orders: Option<&'a Orders>,
 }
 
-impl Rules {
+impl<'a> Rules<'a> {
     /// Document 01.
-    pub const DOCUMENT_01: Rules = Rules { cut_scan: false, underflow: false };
+    pub const DOCUMENT_01: Rules<'static> = Rules { cut_scan: false, underflow: false, orders: None };
+
     /// libzfp.
-    pub const LIBZFP: Rules = Rules { cut_scan: true, underflow: true };
+    pub fn libzfp(orders: &'a Orders) -> Rules<'a> {
+        Rules { cut_scan: true, underflow: true, orders: Some(orders) }
+    }
 }
 
-/// The words that a slot reads as. In exact mode libzfp has no budget: zeros follow the slot in its buffer.
-pub fn words_read(p: &Checked, slot: &[bool], rules: Rules) -> Vec<u32> {
-    let bits = if p.mode == Mode::Exact { padded(slot, 8 * ROOM) } else { slot.to_vec() };
+/// A slot as libzfp has it in exact mode, where it has no budget: zeros follow in its buffer, enough for any code.
+pub fn followed_by_zeros(p: &Checked, slot: &[bool]) -> Vec<bool> {
+    padded(slot, slot.len() + longest_code(p.dimension))
+}
+
+/// The words that a slot reads as.
+pub fn words_read(p: &Checked, slot: &[bool], rules: Rules<'_>) -> Vec<u32> {
+    let bits = if p.mode == Mode::Exact { followed_by_zeros(p, slot) } else { slot.to_vec() };
     let Some(head) = Head::of(p, &bits) else {
         return vec![0; p.block_len()];
     };
@@ -113,11 +137,14 @@ fn times_zero(integer: u32) -> u32 {
     integer & 0x8000_0000
 }
 
-fn integers_read(p: &Checked, bits: &[bool], count: u32, rules: Rules) -> Vec<u32> {
+fn integers_read(p: &Checked, bits: &[bool], count: u32, rules: Rules<'_>) -> Vec<u32> {
     let len = p.block_len();
     let mut coefficients: Vec<u32> = planes::read(bits, len, count);
     if let Some(place) = cut_scan(bits, len, count).filter(|_| rules.cut_scan) {
         coefficients[place.coefficient] |= 1 << place.plane;
+    }
+    if let Some(orders) = rules.orders {
+        coefficients = orders.to_ours(&coefficients);
     }
     let step = if p.mode == Mode::Lossy { transform::unlift } else { transform::sums };
     transform::from_coefficients(&coefficients, p.dimension, step)

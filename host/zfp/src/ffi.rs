@@ -4,9 +4,11 @@
 //! a single block is of [`ROOM`] bytes, more than it can take or a reading of it can look at.
 #![allow(unsafe_code)]
 
+mod blocks;
 mod stream;
 
 use crate::libzfp::{ROOM, Setting, Shape};
+use blocks::{decode_block, encode_block};
 use reference::params::Kind;
 use std::ffi::{CStr, c_char, c_double, c_int, c_uint, c_void};
 pub use stream::Stream;
@@ -20,9 +22,6 @@ struct BitStream {
 struct ZfpStream {
     _opaque: [u8; 0],
 }
-
-type Encoder<T> = unsafe extern "C" fn(*mut ZfpStream, *const T) -> usize;
-type Decoder<T> = unsafe extern "C" fn(*mut ZfpStream, *mut T) -> usize;
 
 unsafe extern "C" {
     static zfp_version_string: *const c_char;
@@ -53,15 +52,6 @@ unsafe extern "C" {
     ) -> c_double;
     fn zfp_stream_set_precision(zfp: *mut ZfpStream, precision: c_uint) -> c_uint;
     fn zfp_stream_set_reversible(zfp: *mut ZfpStream);
-
-    fn zfp_encode_block_int32_1(stream: *mut ZfpStream, block: *const i32) -> usize;
-    fn zfp_encode_block_int32_2(stream: *mut ZfpStream, block: *const i32) -> usize;
-    fn zfp_encode_block_float_1(stream: *mut ZfpStream, block: *const f32) -> usize;
-    fn zfp_encode_block_float_2(stream: *mut ZfpStream, block: *const f32) -> usize;
-    fn zfp_decode_block_int32_1(stream: *mut ZfpStream, block: *mut i32) -> usize;
-    fn zfp_decode_block_int32_2(stream: *mut ZfpStream, block: *mut i32) -> usize;
-    fn zfp_decode_block_float_1(stream: *mut ZfpStream, block: *mut f32) -> usize;
-    fn zfp_decode_block_float_2(stream: *mut ZfpStream, block: *mut f32) -> usize;
 }
 
 /// The header's `zfp_type_int32` and `zfp_type_float`.
@@ -145,16 +135,9 @@ impl Drop for Session {
 pub fn encode(shape: Shape, setting: Setting, words: &[u32]) -> (Vec<u8>, usize) {
     assert_eq!(words.len(), shape.block_len());
     let session = Session::new(&[], shape, setting);
-    let (integers, floats): (Encoder<i32>, Encoder<f32>) = match shape.dimension {
-        1 => (zfp_encode_block_int32_1, zfp_encode_block_float_1),
-        _ => (zfp_encode_block_int32_2, zfp_encode_block_float_2),
-    };
     // SAFETY: the stream is open, its buffer is large enough, and the block has the words that are read.
     let (count, told) = unsafe {
-        let count = match shape.kind {
-            Kind::Integers => integers(session.zfp, words.as_ptr().cast()),
-            Kind::Floats => floats(session.zfp, words.as_ptr().cast()),
-        };
+        let count = encode_block(session.zfp, shape, words.as_ptr());
         let told = stream_wtell(session.bits);
         zfp_stream_flush(session.zfp);
         (count, told)
@@ -168,16 +151,9 @@ pub fn encode(shape: Shape, setting: Setting, words: &[u32]) -> (Vec<u8>, usize)
 pub fn decode(shape: Shape, setting: Setting, content: &[u8]) -> (Vec<u32>, usize) {
     let session = Session::new(content, shape, setting);
     let mut words = vec![0u32; shape.block_len()];
-    let (integers, floats): (Decoder<i32>, Decoder<f32>) = match shape.dimension {
-        1 => (zfp_decode_block_int32_1, zfp_decode_block_float_1),
-        _ => (zfp_decode_block_int32_2, zfp_decode_block_float_2),
-    };
     // SAFETY: the stream is open, its buffer is large enough, and the block has the words that are written.
     let (count, told) = unsafe {
-        let count = match shape.kind {
-            Kind::Integers => integers(session.zfp, words.as_mut_ptr().cast()),
-            Kind::Floats => floats(session.zfp, words.as_mut_ptr().cast()),
-        };
+        let count = decode_block(session.zfp, shape, words.as_mut_ptr());
         (count, stream_rtell(session.bits))
     };
     assert_eq!(count as u64, told, "libzfp's count and its place in the stream");

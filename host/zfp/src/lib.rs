@@ -15,6 +15,7 @@ pub mod expected;
 mod ffi;
 pub mod libzfp;
 pub mod make;
+pub mod order;
 pub mod report;
 pub mod run;
 pub mod slots;

@@ -1,11 +1,17 @@
 //! libzfp behind safe calls on lists of bits, or the plain statement that it is not there.
 
 use crate::bits::{bits_of, bytes_of};
+use crate::order::Orders;
 use reference::Params;
 use reference::params::{Checked, Kind, Mode};
 
-/// The bytes of every buffer lent to libzfp: 1,024 bits of a slot and much more.
-pub const ROOM: usize = 512;
+/// The bytes of every buffer lent to libzfp: 8,462 bits of a slot and much more.
+pub const ROOM: usize = 4_096;
+
+/// The most bits of a code of any kind and mode: 33N - 1 for 32 planes, and a head of 15.
+pub fn longest_code(dimension: u32) -> usize {
+    33 * 4usize.pow(dimension) + 14
+}
 
 /// Said where libzfp is needed and missing.
 pub const MISSING: &str = "libzfp is not installed: apt-get install libzfp-dev";
@@ -15,7 +21,7 @@ pub const MISSING: &str = "libzfp is not installed: apt-get install libzfp-dev";
 pub struct Shape {
     /// Integers or floats.
     pub kind: Kind,
-    /// 1 or 2.
+    /// From 1 to 4.
     pub dimension: u32,
 }
 
@@ -54,6 +60,7 @@ pub struct Libzfp {
     pub version: String,
     /// The bits of its stream words: 8 in Debian's build, 64 by default.
     pub word_bits: usize,
+    orders: [Orders; 4],
 }
 
 impl Libzfp {
@@ -64,7 +71,7 @@ impl Libzfp {
     #[cfg(libzfp)]
     pub fn find() -> Result<Libzfp, &'static str> {
         let (version, word_bits) = crate::ffi::version();
-        Ok(Libzfp { version, word_bits })
+        Ok(Libzfp { version, word_bits, orders: [1, 2, 3, 4].map(Orders::find) })
     }
 
     /// The message that it is missing.
@@ -73,10 +80,14 @@ impl Libzfp {
         Err(MISSING)
     }
 
+    /// The orders of coefficients in a dimension.
+    pub fn orders(&self, dimension: u32) -> &Orders {
+        &self.orders[dimension as usize - 1]
+    }
+
     /// The bits that libzfp writes for a block.
     pub fn encode(&self, shape: Shape, setting: Setting, words: &[u32]) -> Vec<bool> {
-        let (bytes, count) = raw::encode(shape, setting, words);
-        bits_of(&bytes, count)
+        encode(shape, setting, words)
     }
 
     /// The words that libzfp reads from these bits, followed by zeros, and the bits that it took.
@@ -88,6 +99,12 @@ impl Libzfp {
     pub fn stream(&self, params: &Params, blocks: usize) -> Stream {
         Stream::new(checked(params), blocks)
     }
+}
+
+/// The bits that libzfp writes for a block.
+pub(crate) fn encode(shape: Shape, setting: Setting, words: &[u32]) -> Vec<bool> {
+    let (bytes, count) = raw::encode(shape, setting, words);
+    bits_of(&bytes, count)
 }
 
 #[cfg(libzfp)]

@@ -109,9 +109,9 @@ fn powers(random: &mut Random, n: usize) -> Vec<u32> {
 fn smooth_integers(random: &mut Random, n: usize) -> Vec<u32> {
     let (a, b, c) = (random.word() >> 2, random.word() >> 12, random.word() >> 20);
     every(random, n, |random, place| {
-        let (i, j) = (place % 4, place / 4);
-        let curve = a.wrapping_add(b.wrapping_mul(i)).wrapping_sub(c.wrapping_mul(j * j));
-        curve.wrapping_add(random.word_below(8))
+        let [i, j, k, l] = [1, 4, 16, 64].map(|stride| place / stride % 4);
+        let line = a.wrapping_add(b.wrapping_mul(i + k));
+        line.wrapping_sub(c.wrapping_mul(j * j + l * l)).wrapping_add(random.word_below(8))
     })
 }
 
@@ -128,7 +128,9 @@ fn readings(random: &mut Random, n: usize) -> Vec<u32> {
 fn smooth_floats(random: &mut Random, n: usize) -> Vec<u32> {
     let scale = f32::from_bits(random.between(1, 250) << 23);
     let slope = random.word_below(1000) as f32 / 4000.0;
-    every(random, n, |_, place| (scale * (1.0 + slope * (place % 4) as f32 - place as f32 / 64.0)).to_bits())
+    every(random, n, |_, place| {
+        (scale * (1.0 + slope * (place % 4) as f32 - place as f32 / (4 * n) as f32)).to_bits()
+    })
 }
 
 /// Finite floats whose exponent fields are at most `field`, the first one's being that.
@@ -152,7 +154,7 @@ fn multiples(random: &mut Random, n: usize) -> Vec<u32> {
 
 /// Coefficients with many ones.
 fn longest(random: &mut Random, n: usize) -> Vec<u32> {
-    let dimension = if n == 4 { 1 } else { 2 };
+    let dimension = n.ilog(4);
     let step = if random.once_in(2) { transform::sums } else { transform::unlift };
     let shift = random.word_below(32);
     let coefficients = every(random, n, |random, _| (u32::MAX ^ 1 << random.word_below(32)) << shift);

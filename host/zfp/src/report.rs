@@ -1,6 +1,7 @@
 //! The report: tables of what was counted, and the witnesses.
 
-use crate::classes::Class;
+use crate::classes::{Call, Class};
+use crate::libzfp::Libzfp;
 use crate::tally::{Row, Tally};
 use reference::params::{Kind, Mode};
 
@@ -34,24 +35,54 @@ fn table(titles: &[&str], tally: &Tally, numbers: impl Fn(&Row) -> Vec<u64>) -> 
     lines
 }
 
-fn count(row: &Row, class: Class) -> u64 {
-    row.classes[class.index()]
+/// The title of a class's column: its letter, and the answer if it is a refusal's.
+fn title(class: Class) -> String {
+    let answer = match class {
+        Class::NotFinite => " (9)",
+        Class::TooLong => " (10)",
+        Class::NotACode => " (11)",
+        _ => "",
+    };
+    format!("{}{answer}", class.letter())
+}
+
+/// A table that ends with the classes of a call.
+fn with_classes(
+    titles: &[&str],
+    tally: &Tally,
+    call: Call,
+    numbers: impl Fn(&Row) -> Vec<u64>,
+) -> Vec<String> {
+    let classes = Class::of(call);
+    let letters: Vec<String> = classes.iter().map(|&class| title(class)).collect();
+    let titles: Vec<&str> = titles.iter().copied().chain(letters.iter().map(String::as_str)).collect();
+    table(&titles, tally, |row| {
+        numbers(row).into_iter().chain(classes.iter().map(|&class| row.count(call, class))).collect()
+    })
 }
 
 /// Blocks written by both.
 pub fn writing(tally: &Tally) -> Vec<String> {
-    let titles = ["blocks", "codes equal", "counts equal", "A", "D (9)", "E (10)"];
-    table(&titles, tally, |row| {
-        let classes = [Class::ScaleOverflow, Class::NotFinite, Class::TooLong].map(|class| count(row, class));
-        [&[row.blocks, row.codes_equal, row.counts_equal], &classes[..]].concat()
-    })
+    let titles = ["blocks", "codes equal", "counts equal"];
+    with_classes(&titles, tally, Call::Write, |row| vec![row.blocks, row.codes_equal, row.counts_equal])
 }
 
 /// Slots read by both.
 pub fn reading(tally: &Tally) -> Vec<String> {
-    let titles = ["by both", "by ours", "by libzfp", "damaged", "made", "words equal", "B", "C", "F (11)"];
-    table(&titles, tally, |row| {
-        let classes = [Class::CutScan, Class::ScaleUnderflow, Class::NotACode].map(|class| count(row, class));
-        [&row.slots[..], &[row.words_equal], &classes[..]].concat()
-    })
+    let titles = ["by both", "by ours", "by libzfp", "damaged", "made", "words equal"];
+    with_classes(&titles, tally, Call::Read, |row| [&row.slots[..], &[row.words_equal]].concat())
+}
+
+/// The orders of coefficients.
+pub fn orders(lib: &Libzfp) -> Vec<String> {
+    let mut lines = vec![
+        line(&["dim.", "places", "of another number"].map(String::from)),
+        "|---:|---:|---:|".to_string(),
+    ];
+    for dimension in 1..=4 {
+        let orders = lib.orders(dimension);
+        let numbers = [dimension as usize, orders.ours.len(), orders.different()];
+        lines.push(line(&numbers.map(|number| number.to_string())));
+    }
+    lines
 }

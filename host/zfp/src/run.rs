@@ -1,7 +1,7 @@
 //! The whole comparison, part by part.
 
 use crate::compare::Comparison;
-use crate::libzfp::{Libzfp, checked};
+use crate::libzfp::{Libzfp, checked, longest_code};
 use crate::make::{MAKERS, any_block, block_of_field};
 use crate::slots::{damage, headed_slot, random_slot, slot_of_e};
 use crate::tally::Origin;
@@ -10,7 +10,7 @@ use reference::Params;
 
 /// Every kind, mode and dimension.
 fn all_kinds() -> impl Iterator<Item = Params> {
-    (0..8).map(|k| Params { kind: k >> 2, mode: k >> 1 & 1, dimension: 1 + (k & 1), planes: 32, width: 0 })
+    (0..16).map(|k| Params { kind: k >> 3, mode: k >> 2 & 1, dimension: 1 + (k & 3), planes: 32, width: 0 })
 }
 
 const FLOATS: u32 = 1;
@@ -24,11 +24,14 @@ fn any_planes(random: &mut Random) -> u32 {
     if random.once_in(3) { 32 } else { random.between(1, 32) }
 }
 
+/// The widest slot.
+const WIDEST: u32 = 8462;
+
 /// Widths of every size: for lossy blocks mostly those that cut their codes, for exact ones mostly wide enough.
 fn any_width(random: &mut Random, p: &Params) -> u32 {
-    let longest = 33 * block_len(p) as u32 + 14;
+    let longest = longest_code(p.dimension) as u32;
     let (narrow, about, any) =
-        (random.between(16, 64), random.between(16, longest), random.between(16, 1024));
+        (random.between(16, 64), random.between(16, longest), random.between(16, WIDEST));
     if p.mode == LOSSY {
         random.pick(&[0, narrow, about, about, longest, any])
     } else {
@@ -58,10 +61,21 @@ pub fn run(lib: Libzfp, seed: u64, scale: usize) -> Comparison {
 }
 
 impl Run {
+    /// How often something is done in a dimension. A comparison of larger blocks takes longer.
+    fn rounds(&self, p: &Params, count: usize) -> usize {
+        (count * self.scale).div_ceil([1, 1, 5, 20][p.dimension as usize - 1])
+    }
+
+    /// The numbers up to `last`: all of them in dimensions 1 and 2, in the others some, of every remainder by 8.
+    fn some_of(&mut self, p: &Params, last: u32) -> impl Iterator<Item = u32> + use<> {
+        let step = [1, 1, 5, 13][p.dimension as usize - 1];
+        (16 + self.random.word_below(step)..=last).step_by(step as usize)
+    }
+
     fn every_way_of_making_blocks(&mut self) {
         for p in all_kinds() {
             for (_, make) in MAKERS {
-                for _ in 0..400 * self.scale {
+                for _ in 0..self.rounds(&p, 400) {
                     let width = any_width(&mut self.random, &p);
                     let p = Params { planes: any_planes(&mut self.random), width, ..p };
                     let words = make(&mut self.random, block_len(&p));
@@ -73,8 +87,8 @@ impl Run {
 
     fn every_width(&mut self) {
         for p in all_kinds() {
-            for width in std::iter::once(0).chain(16..=1024) {
-                for _ in 0..2 * self.scale {
+            for _ in 0..self.scale {
+                for width in std::iter::once(0).chain(self.some_of(&p, WIDEST)) {
                     let p = Params { planes: any_planes(&mut self.random), width, ..p };
                     let words = any_block(&mut self.random, block_len(&p));
                     self.comparison.block(&p, &words);
@@ -86,7 +100,7 @@ impl Run {
     fn every_number_of_planes(&mut self) {
         for p in all_kinds() {
             for planes in 1..=32 {
-                for _ in 0..60 * self.scale {
+                for _ in 0..self.rounds(&p, 60) {
                     let p = Params { planes, width: any_width(&mut self.random, &p), ..p };
                     let words = any_block(&mut self.random, block_len(&p));
                     self.comparison.block(&p, &words);
@@ -99,7 +113,7 @@ impl Run {
     fn every_exponent_field(&mut self) {
         for p in all_kinds().filter(|p| p.kind == FLOATS) {
             for field in 0..255 {
-                for _ in 0..8 * self.scale {
+                for _ in 0..self.rounds(&p, 8) {
                     let width = any_width(&mut self.random, &p);
                     let p = Params { planes: any_planes(&mut self.random), width, ..p };
                     let words = block_of_field(&mut self.random, block_len(&p), field);
@@ -112,10 +126,10 @@ impl Run {
     /// One block at every budget: cuts at every place of its code.
     fn every_budget(&mut self) {
         for p in all_kinds().filter(|p| p.mode == LOSSY) {
-            for _ in 0..8 * self.scale {
+            for _ in 0..self.rounds(&p, 8) {
                 let p = Params { planes: any_planes(&mut self.random), ..p };
                 let words = any_block(&mut self.random, block_len(&p));
-                for width in 16..=33 * block_len(&p) as u32 + 14 {
+                for width in self.some_of(&p, longest_code(p.dimension) as u32) {
                     self.comparison.block(&Params { width, ..p }, &words);
                 }
             }
@@ -124,7 +138,7 @@ impl Run {
 
     fn damaged_slots(&mut self) {
         for p in all_kinds() {
-            for _ in 0..3000 * self.scale {
+            for _ in 0..self.rounds(&p, 3000) {
                 let width = any_width(&mut self.random, &p);
                 let p = Params { planes: any_planes(&mut self.random), width, ..p };
                 let words = any_block(&mut self.random, block_len(&p));
@@ -139,7 +153,7 @@ impl Run {
 
     fn made_slots(&mut self) {
         for p in all_kinds() {
-            for _ in 0..6000 * self.scale {
+            for _ in 0..self.rounds(&p, 6000) {
                 let width = any_width(&mut self.random, &p);
                 let p = Params { planes: any_planes(&mut self.random), width, ..p };
                 let slot = if self.random.once_in(2) {
@@ -156,7 +170,7 @@ impl Run {
     fn every_e(&mut self) {
         for p in all_kinds().filter(|p| p.kind == FLOATS) {
             for e in 0..256 {
-                for _ in 0..8 * self.scale {
+                for _ in 0..self.rounds(&p, 8) {
                     let width = any_width(&mut self.random, &p);
                     let p = Params { planes: any_planes(&mut self.random), width, ..p };
                     let slot = slot_of_e(&mut self.random, &checked(&p), e);

@@ -1,6 +1,6 @@
 //! The counts of a comparison, for each kind, mode and dimension.
 
-use crate::classes::Class;
+use crate::classes::{Call, Class};
 use reference::Params;
 use reference::params::{Kind, Mode};
 
@@ -35,41 +35,60 @@ pub struct Row {
     pub slots: [u64; ORIGINS],
     /// Slots that both read as the same words.
     pub words_equal: u64,
-    /// Differences, by class.
-    pub classes: [u64; Class::ALL.len()],
+    classes: [[u64; Class::ALL.len()]; Call::ALL.len()],
+}
+
+impl Row {
+    /// Notes the class of an outcome, if it is different.
+    pub fn note(&mut self, call: Call, class: Option<Class>) {
+        if let Some(class) = class {
+            self.classes[call as usize][class.index()] += 1;
+        }
+    }
+
+    /// The differences of a class.
+    pub fn count(&self, call: Call, class: Class) -> u64 {
+        self.classes[call as usize][class.index()]
+    }
+
+    /// All differences.
+    pub fn differences(&self, call: Call) -> u64 {
+        self.classes[call as usize].iter().sum()
+    }
 }
 
 /// One row for each kind, mode and dimension.
 #[derive(Clone, Debug, Default)]
 pub struct Tally {
-    rows: [Row; 8],
+    rows: [Row; 16],
 }
 
 impl Tally {
     /// The row of these parameters.
     pub fn row(&mut self, p: &Params) -> &mut Row {
-        let index = 4 * p.kind + 2 * p.mode + p.dimension - 1;
+        let index = 8 * p.kind + 4 * p.mode + p.dimension - 1;
         &mut self.rows[index as usize]
     }
 
     /// All rows, each with its kind, mode and dimension.
     pub fn rows(&self) -> impl Iterator<Item = (Kind, Mode, u32, &Row)> {
         self.rows.iter().enumerate().map(|(index, row)| {
-            let kind = if index < 4 { Kind::Integers } else { Kind::Floats };
-            let mode = if index & 2 == 0 { Mode::Lossy } else { Mode::Exact };
-            (kind, mode, 1 + (index as u32 & 1), row)
+            let kind = if index < 8 { Kind::Integers } else { Kind::Floats };
+            let mode = if index & 4 == 0 { Mode::Lossy } else { Mode::Exact };
+            (kind, mode, 1 + (index as u32 & 3), row)
         })
     }
 
     /// What is wrong with the classes: one that is stated and never occurs, or occurs where it is not stated.
     pub fn complaints(&self) -> Vec<String> {
         let mut complaints = Vec::new();
+        let every = || Call::ALL.into_iter().flat_map(|call| Class::ALL.map(|class| (call, class)));
         for (kind, mode, dimension, row) in self.rows() {
-            for class in Class::ALL {
-                let count = row.classes[class.index()];
-                if class.is_stated(kind, mode) != (count > 0) {
+            for (call, class) in every() {
+                let count = row.count(call, class);
+                if class.is_stated(call, kind, mode, dimension) != (count > 0) {
                     complaints.push(format!(
-                        "{kind:?}, {mode:?}, dimension {dimension}: {count} differences of class {}, {}",
+                        "{call:?}, {kind:?}, {mode:?}, dimension {dimension}: {count} differences of class {}, {}",
                         class.letter(),
                         class.name()
                     ));

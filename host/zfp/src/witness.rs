@@ -35,12 +35,27 @@ const fn params(kind: u32, mode: u32, width: u32) -> Params {
     Params { kind, dimension: 1, mode, planes: 32, width }
 }
 
+const CUBE: Params = Params { dimension: 3, ..params(0, 1, 16) };
+
+/// 0x80000000 where i and j are odd. The coefficient at i = j = 1, k = 0 has the highest bit; the others are 0.
+const ODD: [u32; 64] = {
+    let mut block = [0; 64];
+    let mut place = 0;
+    while place < 64 {
+        if place % 2 == 1 && place / 4 % 2 == 1 {
+            block[place] = 0x8000_0000;
+        }
+        place += 1;
+    }
+    block
+};
+
 const fn witness(class: Class, params: Params, input: Input) -> Witness {
     Witness { class, params, input }
 }
 
-/// The examples, all of dimension 1.
-pub const WITNESSES: [Witness; 11] = [
+/// The examples, of dimension 1 where the class does not ask for more.
+pub const WITNESSES: [Witness; 13] = [
     // The smallest normal number, lossy: e = 2, so the factor is 2^155.
     witness(Class::ScaleOverflow, params(1, 0, 32), Input::Block(&[0x0080_0000; 4])),
     // The smallest subnormal number, exact: a multiple of 2^-156, so bits 1 0.
@@ -67,7 +82,22 @@ pub const WITNESSES: [Witness; 11] = [
     witness(Class::NotACode, params(1, 1, 32), Input::Slot(&[0x01, 0x20, 0x8D, 0x01])),
     // Four subnormal numbers stored by libzfp: bits 1 1 where document 01 has 1 0.
     witness(Class::NotACode, params(1, 1, 64), Input::TheirSlot(&[1; 4])),
+    // One coefficient, whose number is 4 in document 02 and 6 in libzfp.
+    witness(Class::TieOrder, CUBE, Input::Block(&ODD)),
+    witness(Class::TieOrder, CUBE, Input::OurSlot(&ODD)),
 ];
+
+/// Eight words a line, the first line after a label. Equal lines are counted.
+fn with_words(label: &str, words: &[u32]) -> Vec<String> {
+    let lines: Vec<&[u32]> = words.chunks(8).collect();
+    let mut out = Vec::new();
+    for equal in lines.chunk_by(|line, next| line == next) {
+        let label = if out.is_empty() { label.to_string() } else { " ".repeat(label.len()) };
+        let times = if equal.len() == 1 { String::new() } else { format!(", {} times", equal.len()) };
+        out.push(format!("{label}{}{times}", hex_words(equal[0])));
+    }
+    out
+}
 
 impl Witness {
     /// "A: floats, exact, dimension 1, P = 32, W = 64"
@@ -86,12 +116,12 @@ impl Witness {
             Input::Block(words) => self.show_block(comparison, words, &mut lines),
             Input::Slot(bytes) => self.show_slot(comparison, &bits_of(bytes, width), "", &mut lines),
             Input::OurSlot(words) => {
-                lines.push(format!("   words   {}", hex_words(words)));
+                lines.extend(with_words("   words   ", words));
                 let slot = comparison.write(&self.params, words).ours.expect("the block can be stored");
                 self.show_slot(comparison, &slot, ", stored by ours", &mut lines)
             }
             Input::TheirSlot(words) => {
-                lines.push(format!("   words   {}", hex_words(words)));
+                lines.extend(with_words("   words   ", words));
                 let slot = padded(&comparison.write(&self.params, words).theirs, width);
                 self.show_slot(comparison, &slot, ", stored by libzfp", &mut lines)
             }
@@ -107,7 +137,7 @@ impl Witness {
     ) -> Option<Class> {
         let written = comparison.write(&self.params, words);
         let reply = written.reply;
-        lines.push(format!("   words   {}", hex_words(words)));
+        lines.extend(with_words("   words   ", words));
         lines.push(match &written.ours {
             Some(slot) => format!("   ours    answer 0, {} bits, slot {}", reply.count, hex(slot)),
             None => format!("   ours    answer {}, count {}", reply.answer, reply.count),
@@ -129,11 +159,11 @@ impl Witness {
     ) -> Option<Class> {
         let read = comparison.read(&self.params, slot, Origin::Made);
         lines.push(format!("   slot    {}{source}", hex(slot)));
-        lines.push(match &read.ours {
-            Some(words) => format!("   ours    answer 0, reads {}", hex_words(words)),
-            None => format!("   ours    answer {}", read.reply.answer),
-        });
-        lines.push(format!("   libzfp  reads {}", hex_words(&read.theirs)));
+        match &read.ours {
+            Some(words) => lines.extend(with_words("   ours    answer 0, reads ", words)),
+            None => lines.push(format!("   ours    answer {}", read.reply.answer)),
+        }
+        lines.extend(with_words("   libzfp  reads ", &read.theirs));
         read.class
     }
 }

@@ -3,10 +3,10 @@
 use random::{Random, is_long};
 use reference::{Params, bits, planes};
 use zfp::bits::{bits_of, padded};
-use zfp::classes::Class;
+use zfp::classes::{Call, Class};
 use zfp::compare::Comparison;
-use zfp::libzfp::Libzfp;
-use zfp::report::{reading, writing};
+use zfp::libzfp::{Libzfp, longest_code};
+use zfp::report::{orders, reading, writing};
 use zfp::run::run;
 use zfp::tally::Origin;
 use zfp::witness::WITNESSES;
@@ -28,11 +28,8 @@ fn is_explained(comparison: &Comparison) {
     none(&comparison.failures);
     none(&comparison.tally.complaints());
     for (_, _, _, row) in comparison.tally.rows() {
-        let count = |classes: [Class; 3]| classes.iter().map(|class| row.classes[class.index()]).sum::<u64>();
-        let written = count([Class::ScaleOverflow, Class::NotFinite, Class::TooLong]);
-        let read = count([Class::CutScan, Class::ScaleUnderflow, Class::NotACode]);
-        assert_eq!(row.codes_equal + written, row.blocks);
-        assert_eq!(row.words_equal + read, row.slots.iter().sum::<u64>());
+        assert_eq!(row.codes_equal + row.differences(Call::Write), row.blocks);
+        assert_eq!(row.words_equal + row.differences(Call::Read), row.slots.iter().sum::<u64>());
     }
 }
 
@@ -48,6 +45,7 @@ fn every_difference_has_a_class() {
     is_explained(&comparison);
     is_reported(&writing(&comparison.tally));
     is_reported(&reading(&comparison.tally));
+    is_reported(&orders(&comparison.lib));
     if is_long() {
         is_explained(&run(lib(), 2, 40));
     }
@@ -65,33 +63,35 @@ fn the_examples_are_in_their_classes() {
 }
 
 /// libzfp asks for lossy integers of a magnitude below 2^30. Larger ones overflow its sums, which C leaves undefined;
-/// in this build they are taken modulo 2^32, as document 01 has it.
+/// in this build they are taken modulo 2^32, as document 01 has it. So there is no difference but that of the order.
 #[test]
 fn lossy_integers_above_libzfps_range() {
     let mut random = Random::new(8);
     let mut comparison = Comparison::new(lib());
-    for dimension in [1, 2] {
-        for _ in 0..if is_long() { 400_000 } else { 10_000 } {
+    for (dimension, rounds) in [(1, 10_000), (2, 10_000), (3, 2_000), (4, 500)] {
+        for _ in 0..if is_long() { 40 * rounds } else { rounds } {
             let mut words: Vec<u32> = (0..4usize.pow(dimension)).map(|_| random.word()).collect();
             // The two highest bits differ, so the magnitude of one word at least is 2^30 or more.
             words[0] = words[0] & 0xBFFF_FFFF | !words[0] >> 1 & 0x4000_0000;
             let planes = random.between(1, 32);
-            let p = Params { kind: 0, dimension, mode: 0, planes, width: random.between(16, 1024) };
-            assert_eq!(comparison.write(&p, &words).class, None);
+            let p = Params { kind: 0, dimension, mode: 0, planes, width: random.between(16, 8462) };
+            let class = comparison.write(&p, &words).class;
+            assert!(class.is_none() || dimension > 2 && class == Some(Class::TieOrder), "{p:?}");
         }
     }
     none(&comparison.failures);
 }
 
-/// Class A by itself: four equal floats are whole multiples, so document 01's form has bits 1 0. libzfp's has too
-/// exactly from the exponent field 29 on.
+/// Class A by itself: equal floats are whole multiples, so document 01's form has bits 1 0. libzfp's has too exactly
+/// from the exponent field 29 on. Only the first coefficient is not 0, so the order does not matter.
 #[test]
 fn the_scale_overflows_below_the_field_29() {
     let mut comparison = Comparison::new(lib());
-    for dimension in [1, 2] {
+    for dimension in 1..=4 {
+        let width = longest_code(dimension) as u32;
         for field in 0..255 {
             let words = vec![field << 23 | 0x0040_0000; 4usize.pow(dimension)];
-            for (mode, width) in [(0, 600), (1, 600)] {
+            for mode in [0, 1] {
                 let p = Params { kind: 1, dimension, mode, planes: 32, width };
                 let class = comparison.write(&p, &words).class;
                 assert_eq!(class, (field < 29).then_some(Class::ScaleOverflow), "field {field}");
@@ -106,30 +106,32 @@ fn the_scale_overflows_below_the_field_29() {
 #[test]
 fn the_scale_underflows_below_e_8() {
     let mut comparison = Comparison::new(lib());
-    for dimension in [1, 2] {
+    for dimension in 1..=4 {
+        let width = longest_code(dimension);
         let mut coefficients = vec![0u32; 4usize.pow(dimension)];
         coefficients[0] = 1 << 28;
         for e in 0..256 {
             let mut slot = vec![true];
             slot.extend(bits::number(e, 8));
             slot.extend(planes::code(&coefficients, 32));
-            let p = Params { kind: 1, dimension, mode: 0, planes: 32, width: 600 };
-            let read = comparison.read(&p, &padded(&slot, 600), Origin::Made);
+            let p = Params { kind: 1, dimension, mode: 0, planes: 32, width: width as u32 };
+            let read = comparison.read(&p, &padded(&slot, width), Origin::Made);
             assert_eq!(read.class, (e < 8).then_some(Class::ScaleUnderflow), "e = {e}");
         }
     }
     none(&comparison.failures);
 }
 
-/// All slots of the smallest width, in every kind, mode and dimension.
+/// All slots of the smallest width, in every kind and mode of dimensions 1 and 2, and a part of them in 3 and 4.
 #[test]
 fn every_slot_of_16_bits() {
     let mut comparison = Comparison::new(lib());
     let planes = if is_long() { (1..=32).collect() } else { vec![32] };
     for planes in planes {
-        for k in 0..8 {
-            let p = Params { kind: k & 1, dimension: 1 + (k >> 1 & 1), mode: k >> 2, planes, width: 16 };
-            for slot in 0..=u16::MAX {
+        for k in 0..16 {
+            let p = Params { kind: k & 1, dimension: 1 + (k >> 1 & 3), mode: k >> 3, planes, width: 16 };
+            let step = [1, 1, 17, 151][p.dimension as usize - 1];
+            for slot in (0..=u16::MAX).step_by(step) {
                 comparison.read(&p, &bits_of(&slot.to_le_bytes(), 16), Origin::Made);
             }
         }

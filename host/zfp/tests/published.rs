@@ -10,10 +10,19 @@ use reference::words::{from_negabinary, to_negabinary};
 use reference::{Params, bits};
 use testing::{EXACT, FLOATS, INTEGERS, LOSSY};
 use zfp::bits::padded;
+use zfp::classes::Class;
 use zfp::compare::Comparison;
 use zfp::libzfp::{Libzfp, Setting, checked, shape};
 use zfp::make::any_block;
 use zfp::tally::Origin;
+
+/// The widest slot takes every code.
+const WIDEST: u32 = 8462;
+
+/// The rounds in a dimension. A comparison of larger blocks takes longer.
+fn rounds_in(dimension: u32, count: usize) -> usize {
+    rounds(count.div_ceil([1, 1, 5, 20][dimension as usize - 1]))
+}
 
 fn comparison() -> Comparison {
     Comparison::new(Libzfp::find().unwrap_or_else(|message| panic!("{message}")))
@@ -65,59 +74,60 @@ fn group_testing_of_document_004() {
     }
 }
 
-/// Document 002's table of the largest sizes: kind, mode, dimension, bits.
-const LARGEST: [(u32, u32, u32, usize); 8] = [
-    (INTEGERS, LOSSY, 1, 131),
-    (INTEGERS, LOSSY, 2, 527),
-    (INTEGERS, EXACT, 1, 136),
-    (INTEGERS, EXACT, 2, 532),
-    (FLOATS, LOSSY, 1, 140),
-    (FLOATS, LOSSY, 2, 536),
-    (FLOATS, EXACT, 1, 146),
-    (FLOATS, EXACT, 2, 542),
+/// Document 002's table of the largest sizes: kind, mode, and the bits in dimensions 1 to 4.
+const LARGEST: [(u32, u32, [usize; 4]); 4] = [
+    (INTEGERS, LOSSY, [131, 527, 2111, 8447]),
+    (INTEGERS, EXACT, [136, 532, 2116, 8452]),
+    (FLOATS, LOSSY, [140, 536, 2120, 8456]),
+    (FLOATS, EXACT, [146, 542, 2126, 8462]),
 ];
 
 /// No block is larger, for either program. The exact sizes of integers are reached; the others are bounds.
 #[test]
 fn largest_sizes_of_document_002() {
     let mut random = Random::new(3);
-    for (kind, mode, dimension, largest) in LARGEST {
-        let mut comparison = comparison();
-        let p = Params { kind, dimension, mode, planes: 32, width: 1024 };
-        let n = 4usize.pow(dimension);
-        for _ in 0..rounds(4_000) {
-            let written = comparison.write(&p, &any_block(&mut random, n));
-            assert!(written.theirs.len() <= largest && written.reply.count as usize <= largest);
+    for (kind, mode, sizes) in LARGEST {
+        for (dimension, largest) in (1..).zip(sizes) {
+            let mut comparison = comparison();
+            let p = Params { kind, dimension, mode, planes: 32, width: WIDEST };
+            let n = 4usize.pow(dimension);
+            for _ in 0..rounds_in(dimension, 4_000) {
+                let written = comparison.write(&p, &any_block(&mut random, n));
+                assert!(written.theirs.len() <= largest && written.reply.count as usize <= largest);
+            }
+            if kind == INTEGERS && mode == EXACT {
+                let words = from_coefficients(&vec![u32::MAX; n], dimension, sums);
+                let written = comparison.write(&p, &words);
+                assert_eq!((written.theirs.len(), written.reply.count as usize), (largest, largest));
+            }
+            assert!(comparison.failures.is_empty());
         }
-        if kind == INTEGERS && mode == EXACT {
-            let words = from_coefficients(&vec![u32::MAX; n], dimension, sums);
-            let written = comparison.write(&p, &words);
-            assert_eq!((written.theirs.len(), written.reply.count as usize), (largest, largest));
-        }
-        assert!(comparison.failures.is_empty());
     }
 }
 
-/// Stores with the proved library and reads with both, which must agree. The slot is wide enough for the whole code.
+/// Each program reads what it has written, and both must have the same words: where the slot is wide enough for the
+/// whole code, what is lost does not depend on the order of coefficients.
 fn stored_and_read(comparison: &mut Comparison, p: &Params, words: &[u32]) -> Vec<u32> {
-    let slot = comparison.write(p, words).ours.expect("a finite block can be stored");
-    let read = comparison.read(p, &slot, Origin::Both);
-    assert_eq!(read.ours.as_ref(), Some(&read.theirs), "{p:?} {words:x?}");
-    read.theirs
+    let written = comparison.write(p, words);
+    let slot = written.ours.expect("a finite block can be stored");
+    let ours = comparison.read(p, &slot, Origin::Ours).ours;
+    let theirs = comparison.read(p, &padded(&written.theirs, slot.len()), Origin::Theirs).theirs;
+    assert_eq!(ours.as_ref(), Some(&theirs), "{p:?} {words:x?}");
+    theirs
 }
 
-/// Signed integers of b bits, shifted left by 31 - b, come back from b + 4d + 1 planes, for b up to 27 in dimension 1
-/// and up to 23 in dimension 2.
+/// Signed integers of b bits, shifted left by 31 - b, come back from b + 4d + 1 planes, for b up to 27, 23, 19 and 15 in
+/// dimensions 1 to 4.
 #[test]
 fn precisions_that_lose_no_integer() {
     let mut random = Random::new(4);
     let mut comparison = comparison();
-    for (dimension, most) in [(1, 27), (2, 23)] {
+    for (dimension, most) in [(1, 27), (2, 23), (3, 19), (4, 15)] {
         assert_eq!(most + 4 * dimension + 1, 32);
         for b in 1..=most {
             let planes = b + 4 * dimension + 1;
-            let p = Params { kind: INTEGERS, dimension, mode: LOSSY, planes, width: 1024 };
-            for _ in 0..rounds(200) {
+            let p = Params { kind: INTEGERS, dimension, mode: LOSSY, planes, width: WIDEST };
+            for _ in 0..rounds_in(dimension, 200) {
                 let small = random.word_below(b);
                 let mut word = || ((random.word() as i32 >> (32 - b + small)) << (31 - b)) as u32;
                 let words: Vec<u32> = (0..4usize.pow(dimension)).map(|_| word()).collect();
@@ -172,7 +182,8 @@ fn floats(random: &mut Random, dimension: u32) -> Vec<u32> {
 }
 
 /// With p planes the error is at most k 2^E / 2^p, where 2^E is the largest power of two in the block and k is 20 in
-/// dimension 1 and 20 x 15/4 = 75 in dimension 2. (The text gives that product and then prints 125 for it.)
+/// dimension 1 and 15/4 as much in each further one: 75, 1125/4 and 16875/16. (The text gives that product, and then
+/// prints 125 for 75 and 16876/16 for the last.)
 ///
 /// That is the error of cutting planes off. Cutting the values toward zero adds less than 2^(m-30), and the rounding to
 /// binary32 half a unit in the last place. Blocks whose reading leaves 32 bits are left out; both programs read them
@@ -181,11 +192,12 @@ fn floats(random: &mut Random, dimension: u32) -> Vec<u32> {
 fn the_bound_on_the_error() {
     let mut random = Random::new(6);
     let mut comparison = comparison();
-    for (dimension, k) in [(1, 20.0), (2, 75.0)] {
+    for (dimension, k) in [(1, 20.0), (2, 75.0), (3, 1125.0 / 4.0), (4, 16875.0 / 16.0)] {
+        let blocks = rounds_in(dimension, 100);
         for planes in 1..=32 {
-            let p = Params { kind: FLOATS, dimension, mode: LOSSY, planes, width: 1024 };
+            let p = Params { kind: FLOATS, dimension, mode: LOSSY, planes, width: WIDEST };
             let mut wrapped = 0;
-            for _ in 0..rounds(100) {
+            for _ in 0..blocks {
                 let words = floats(&mut random, dimension);
                 let back = stored_and_read(&mut comparison, &p, &words);
                 if reading_wraps(&words, dimension, planes) {
@@ -202,7 +214,7 @@ fn the_bound_on_the_error() {
                     );
                 }
             }
-            assert!(10 * wrapped < rounds(100), "{p:?}: {wrapped} blocks left out");
+            assert!(10 * wrapped < blocks, "{p:?}: {wrapped} blocks left out");
         }
     }
     assert!(comparison.failures.is_empty());
@@ -213,16 +225,16 @@ fn the_bound_on_the_error() {
 fn fixed_rate_and_fixed_precision() {
     let mut random = Random::new(7);
     let mut comparison = comparison();
-    for k in 0..4 {
+    for k in 0..8 {
         let (kind, dimension) = (k & 1, 1 + (k >> 1));
         let n = 4usize.pow(dimension);
-        for _ in 0..rounds(3_000) {
+        for _ in 0..rounds_in(dimension, 3_000) {
             let words = any_block(&mut random, n);
-            let rate = random.between(4, 32);
+            let rate = random.between(if dimension == 1 { 4 } else { 1 }, 32);
             let planes = random.between(1, 32);
             let slots = Params { kind, dimension, mode: LOSSY, planes: 32, width: rate * n as u32 };
             let by_default = Params { width: 0, ..slots };
-            let whole = Params { planes, width: 1024, ..slots };
+            let whole = Params { planes, width: WIDEST, ..slots };
             let cases = [
                 (slots, Setting::Rate(f64::from(rate))),
                 (by_default, Setting::Rate(8.0)),
@@ -230,11 +242,13 @@ fn fixed_rate_and_fixed_precision() {
             ];
             for (p, setting) in cases {
                 let written = comparison.write(&p, &words);
-                let (Some(slot), None) = (written.ours, written.class) else {
+                // Ours, or ours but for the order of coefficients.
+                let (None | Some(Class::TieOrder)) = written.class else {
                     continue;
                 };
+                let width = checked(&p).width;
                 let theirs = comparison.lib.encode(shape(&checked(&p)), setting, &words);
-                assert_eq!(slot, padded(&theirs, checked(&p).width), "{p:?} {words:x?}");
+                assert_eq!(padded(&written.theirs, width), padded(&theirs, width), "{p:?} {words:x?}");
             }
         }
     }

@@ -7,7 +7,7 @@ use std::env;
 use std::process::ExitCode;
 use zfp::compare::Comparison;
 use zfp::libzfp::Libzfp;
-use zfp::report::{reading, writing};
+use zfp::report::{orders, reading, writing};
 use zfp::run::run;
 use zfp::witness::WITNESSES;
 
@@ -30,6 +30,10 @@ fn main() -> ExitCode {
 
 fn report(lib: Libzfp, scale: usize, seed: u64) -> ExitCode {
     println!("{}, stream words of {} bits; scale {scale}, seed {seed}", lib.version, lib.word_bits);
+    println!(
+        "\nPlaces whose coefficient has another number in libzfp's order:\n\n{}",
+        orders(&lib).join("\n")
+    );
     let mut comparison = run(lib, seed, scale);
     println!("\nBlocks written by both:\n\n{}", writing(&comparison.tally).join("\n"));
     println!("\nSlots read by both:\n\n{}", reading(&comparison.tally).join("\n"));

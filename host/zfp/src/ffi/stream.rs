@@ -2,13 +2,13 @@
 //!
 //! The stream is opened once and rewound for each pass, so that a benchmark of it measures the coding.
 
+use super::blocks::{decode_block, encode_block};
 use super::{
-    BitStream, MAX_PREC, MIN_EXP, ZfpStream, stream_close, stream_open, stream_rewind,
-    zfp_decode_block_float_1, zfp_decode_block_float_2, zfp_decode_block_int32_1, zfp_decode_block_int32_2,
-    zfp_encode_block_float_1, zfp_encode_block_float_2, zfp_encode_block_int32_1, zfp_encode_block_int32_2,
-    zfp_stream_close, zfp_stream_flush, zfp_stream_open, zfp_stream_set_params,
+    BitStream, MAX_PREC, MIN_EXP, ZfpStream, stream_close, stream_open, stream_rewind, zfp_stream_close,
+    zfp_stream_flush, zfp_stream_open, zfp_stream_set_params,
 };
-use reference::params::{Checked, Kind, Mode};
+use crate::libzfp::shape;
+use reference::params::{Checked, Mode};
 
 /// A stream of so many blocks over a buffer of its own.
 pub struct Stream {
@@ -49,13 +49,7 @@ impl Stream {
         unsafe {
             stream_rewind(self.bits);
             for block in words.chunks_exact(len) {
-                let start = block.as_ptr();
-                match (self.params.kind, self.params.dimension) {
-                    (Kind::Integers, 1) => zfp_encode_block_int32_1(self.zfp, start.cast()),
-                    (Kind::Integers, _) => zfp_encode_block_int32_2(self.zfp, start.cast()),
-                    (Kind::Floats, 1) => zfp_encode_block_float_1(self.zfp, start.cast()),
-                    (Kind::Floats, _) => zfp_encode_block_float_2(self.zfp, start.cast()),
-                };
+                encode_block(self.zfp, shape(&self.params), block.as_ptr());
             }
             zfp_stream_flush(self.zfp);
         }
@@ -69,13 +63,7 @@ impl Stream {
         unsafe {
             stream_rewind(self.bits);
             for block in words.chunks_exact_mut(len) {
-                let start = block.as_mut_ptr();
-                match (self.params.kind, self.params.dimension) {
-                    (Kind::Integers, 1) => zfp_decode_block_int32_1(self.zfp, start.cast()),
-                    (Kind::Integers, _) => zfp_decode_block_int32_2(self.zfp, start.cast()),
-                    (Kind::Floats, 1) => zfp_decode_block_float_1(self.zfp, start.cast()),
-                    (Kind::Floats, _) => zfp_decode_block_float_2(self.zfp, start.cast()),
-                };
+                decode_block(self.zfp, shape(&self.params), block.as_mut_ptr());
             }
         }
     }
