@@ -34,7 +34,7 @@ fn transpose(b: [[u64; 4]; 4]) -> [[u64; 4]; 4]
 }
 
 // The lines along axis a: the rows along axis 0, the columns along axis 1.
-fn rows_or_columns(size: u32, b: [[u64; 4]; 4], a: u32, exact: bool, back: bool) -> [[u64; 4]; 4]
+fn along(size: u32, b: [[u64; 4]; 4], a: u32, exact: bool, back: bool) -> [[u64; 4]; 4]
     requires { ⌜ (1 ≤ size) × (size ≤ 64) × a < 2 ⌝ }
     ensures { λ r. ⌜ flat r ≡ along (transformOf size exact back) (4 ^ a) (flat b) ⌝ }
 {
@@ -50,13 +50,7 @@ fn write_square(size: u32, b: [[u64; 4]; 4], exact: bool) -> [[u64; 4]; 4]
     requires { ⌜ (1 ≤ size) × (size ≤ 64) ⌝ }
     ensures { λ r. ⌜ flat r ≡ forward size exact 2 (flat b) ⌝ }
 {
-    rows_or_columns(
-        size,
-        rows_or_columns(size, b, 0, exact, false),
-        1,
-        exact,
-        false,
-    )
+    along(size, along(size, b, 0, exact, false), 1, exact, false)
 }
 
 // The columns, then the rows.
@@ -64,13 +58,7 @@ fn read_square(size: u32, b: [[u64; 4]; 4], exact: bool) -> [[u64; 4]; 4]
     requires { ⌜ (1 ≤ size) × (size ≤ 64) ⌝ }
     ensures { λ r. ⌜ flat r ≡ backward size exact 2 (flat b) ⌝ }
 {
-    rows_or_columns(
-        size,
-        rows_or_columns(size, b, 1, exact, true),
-        0,
-        exact,
-        true,
-    )
+    along(size, along(size, b, 1, exact, true), 0, exact, true)
 }
 
 // Sixteen words as four rows.

@@ -13,6 +13,7 @@ use Rattle.planes.specs.Coder.{planeCode, planeNext, planesCode}
 use Rattle.planes.specs.Reader.{readPlane, readNext, readWords}
 use Rattle.transforms.specs.Four.{twiceLess, lift, unlift, differ, undiffer}
 use Rattle.blocks.specs.Axes.{along}
+use Rattle.order.specs.Tables.{cubeOrder, stackOrder}
 use Rattle.order.specs.Order.{reorder, restore}
 use Rattle.blocks.specs.Coefficients.{coefficients, values}
 use Rattle.floats.specs.Integer.{signed, toInteger, whole}
@@ -36,7 +37,7 @@ use Rattle.claims.specs.Table.{P12, Paper, Ours, Table}
 -- everything that the cases compute with
 unfoldable computed : ℕ
 unfolding plus minus half twiceLess nega unnega flip planeCode planeNext planesCode readPlane readNext readWords lift unlift differ undiffer
-    along reorder restore coefficients values
+    along cubeOrder stackOrder reorder restore coefficients values
     toInteger toPattern signed scaled whole ofBits toBits round planesNeeded exactPlanes lossyIntegers lossyFloats exactIntegers exactFloats definedCode
     readIntegers readExactFloats readLossyFloats readCode slotsIn codeOf wordsOf write countOutcome storeOutcome readOutcome slotOf
     leadingZeros side fcmHash dfcmHash zeroBytes residual residualCode halfByte remaining pairBytes oddBytes stream decoded coded stepOf read
@@ -89,6 +90,8 @@ ours = (
   refl,
   refl,
   refl,
+  (refl, refl, refl, refl),
+  (refl, refl),
   refl,
   (refl, refl, refl),
 )

@@ -2,13 +2,14 @@
 use mathlib.Core.Path.{_≡_}
 use mathlib.Core.Bool.{Bool, true, false}
 use mathlib.Core.List.{List, [], _∷_, _++_, map}
-use Prim.Native.Nat.{ℕ, suc, _+_, _-_, _^_}
+use Prim.Native.Nat.{ℕ, suc, _+_, _-_, _/_, _%_, _^_}
 use lib.Ieee.{binary32}
 use lib.ListN.{length, take, replicate}
 use Rattle.bits.specs.Stream.{bit, bitsOf}
 use Rattle.words.specs.Word.{half, nega, unnega}
 use Rattle.planes.specs.Coder.{planeCode, planeNext}
 use Rattle.planes.specs.Reader.{readWords}
+use Rattle.order.specs.Lists.{tabulate}
 use Rattle.blocks.specs.Coefficients.{coefficients}
 use Rattle.rounding.specs.Rounded.{toPattern}
 use Rattle.codec.specs.Code.{definedCode}
@@ -199,6 +200,30 @@ HashWraps =
     stream 16 (0x4059_0000_0000_0000 ∷ 0x4059_4000_0000_0000 ∷ 0x4059_8000_0000_0000 ∷ 0x4059_c000_0000_0000 ∷ [])
     ≡ 0x00 ∷ 0x00 ∷ 0x00 ∷ 0x00 ∷ 0x00 ∷ 0x00 ∷ 0x00 ∷ 0x59 ∷ 0x40 ∷ 0x00 ∷ 0x00 ∷ 0x00 ∷ 0x00 ∷ 0x00 ∷ 0x40 ∷ 0x59 ∷ 0x40 ∷ 0xff ∷ []
 
+-- ---- rows of our own: dimensions 3 and 4
+
+-- words that rise by 1 along axis a: "place i + 4j + 16k + 64l"
+abbrev pub ramp : ℕ → ℕ → List ℕ
+ramp d a = tabulate (4 ^ d) (λ p. p / 4 ^ a % 4)
+
+-- the code of exact integers whose one coefficient is 1, and has number n in the order: 32 planes, of which the last has its one there
+abbrev pub oneAt : ℕ → List Bool
+oneAt n = replicate 5 true ++ replicate 31 false ++ (true ∷ replicate n false) ++ (true ∷ false ∷ [])
+
+-- "transformed axis by axis", "then larger first index, then larger second, and so on": a ramp has one coefficient, and that along i goes before those along j, k and l
+abbrev pub RampsTold : Type 0
+RampsTold =
+    (definedCode binary32 false true 3 32 0 (ramp 3 0) ≡ oneAt 1)
+    × (definedCode binary32 false true 3 32 0 (ramp 3 1) ≡ oneAt 2)
+    × (definedCode binary32 false true 3 32 0 (ramp 3 2) ≡ oneAt 3)
+    × (definedCode binary32 false true 4 32 0 (ramp 4 3) ≡ oneAt 4)
+
+-- "W goes up to 8,462", also of a block of four words; 8,463 is refused
+abbrev pub WidestSlots : Type 0
+WidestSlots =
+    (countOutcome (exactIntegersAt 8462) 2116 ≡ record { answer = 0; count = 2 })
+    × (countOutcome (exactIntegersAt 8463) 2116 ≡ record { answer = 5; count = 0 })
+
 -- ---- rows of our own: the listing
 
 -- "In: .. Out: ..", the listing that P2 cites
@@ -207,11 +232,11 @@ Listed =
     listing (textLine "000101200030" ++ textLine "00000001000000010000000100000001" ++ textLine "aaaaaaab55555556aaaaaaac55555558")
     ≡ textLine "0000271f0000003000" ++ textLine "0a0088"
 
--- "so is empty input, as a first line"; a bad first line's one answer; "For an ill-formed line 12 comes before all other rows"
+-- "so is empty input, as a first line"; a bad first line's one answer, for dimension 5; "For an ill-formed line 12 comes before all other rows"
 abbrev pub ListedBad : Type 0
 ListedBad =
     (listing [] ≡ textLine "0c0000")
-    × (listing (textLine "000301200030" ++ textLine "00000001000000010000000100000001") ≡ textLine "020000")
+    × (listing (textLine "000501200030" ++ textLine "00000001000000010000000100000001") ≡ textLine "020000")
     × (listing
     (textLine "010100200030" ++ textLine "7F800000000000000000000000000000" ++ textLine "7f800000000000000000000000000000" ++ text "00")
     ≡ textLine "0c0000" ++ textLine "090000" ++ textLine "0c0000")
@@ -224,7 +249,7 @@ Paper = P1 × P2 × P3 × P4 × P5 × P6 × P7 × P8 × P9 × P10 × P11 × P12
 abbrev pub Ours : Type 0
 Ours =
     WidthZero × BetweenNeighbours × LossyFloats × Answers11 × OrderTold × NegativeHalved × RoundingTie × CutScan × CutScanAtLast × CutVerbatim
-    × FourAsThree × DfcmTaken × TieTakesFcm × OddThree × HashWraps × Listed × ListedBad
+    × FourAsThree × DfcmTaken × TieTakesFcm × OddThree × HashWraps × RampsTold × WidestSlots × Listed × ListedBad
 
 abbrev pub Table : Type 0
 Table = Paper × Ours

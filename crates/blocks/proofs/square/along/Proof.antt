@@ -1,12 +1,12 @@
--- `blocks::square::rows_or_columns` meets its contract: by axis.
+-- `blocks::square::along` meets its contract: by axis.
 use mathlib.Core.Path.{_≡_, ap, _∙_}
 use native.Mathlib.Omega.{arith}
 use borrow.Author.Needs.{needs}
 use Rattle.transforms.specs.Calls.{transformOf}
 use Rattle.blocks.specs.Calls.{flat, eachRow, transposed}
 use Rattle.blocks.proofs.Squares.{rows-along, columns-along}
-use Rattle.blocks.proofs.square.rows_or_columns.Statement.{statement}
-use Rattle.blocks.proofs.square.rows_or_columns.Tie as tie
+use Rattle.blocks.proofs.square.along.Statement.{statement}
+use Rattle.blocks.proofs.square.along.Tie as tie
 
 rows-requires : tie.Need-rows-requires
 rows-requires c κs = search needs
@@ -35,8 +35,8 @@ returns-2 c =
     (ap flat (c .transpose2 .ensures ∙ ap transposed (c .before .rows2 .ensures ∙ ap (eachRow t) (c .before .before .transpose .ensures)))
     ∙ columns-along t (s .b))
 
-pub rows-or-columns-spec : {M : Type 1} → statement M
-rows-or-columns-spec =
+pub along-spec : {M : Type 1} → statement M
+along-spec =
     tie.close
     (tie.spec
     rows-requires
