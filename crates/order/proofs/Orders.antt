@@ -1,5 +1,5 @@
 -- The rule of the order, carried from the test of a whole table to its entries; the table of every dimension passes it.
-use mathlib.Core.Path.{_≡_, refl, sym, ap, _∙_}
+use mathlib.Core.Path.{_≡_, refl, ap, _∙_}
 use mathlib.Core.Bool.{true, and-eq-true-iff}
 use mathlib.Core.List.{List}
 use Prim.Native.Nat.{ℕ, zero, suc, _-_, _^_, _<_}
@@ -33,20 +33,10 @@ in-order (suc (suc (suc (suc (suc d))))) h = absurd (omega arith)
 pub places : (d : ℕ) → Dimension d → Permutation (4 ^ d) (order d)
 places d good = ordered d (order d) (in-order d good) .places
 
--- a line stands in order
-pub line-place : (k : ℕ) → k < 4 → k ≡ getD (order 1) k 0
-line-place zero h = refl
-line-place (suc zero) h = refl
-line-place (suc (suc zero)) h = refl
-line-place (suc (suc (suc zero))) h = refl
-line-place (suc (suc (suc (suc k)))) h = absurd (omega arith)
+-- a list that is the table of dimension d
+module _ (d : ℕ) (good : Dimension d) (t : List ℕ) (same : t ≡ order d) where
+  pub table-long : length t ≡ 4 ^ d
+  table-long = ap length same ∙ places d good .long
 
--- a dimension that is e has the table of e
-module _ (d e : ℕ) (same : d ≡ e) {k : ℕ} (inside : k < 4 ^ d) where
-  pub same-inside : k < 4 ^ e
-  same-inside = rw (← same) inside
-
-  pub same-place : {r : ℕ} → Dimension d → r ≡ getD (order e) k 0 → (r ≡ getD (order d) k 0) × (r < 4 ^ d)
-  same-place good found =
-      let here = found ∙ ap (λ (x : ℕ). getD (order x) k 0) (sym same) in
-      (here, rw here (places d good .inside k inside))
+  pub table-inside : (k : ℕ) → k < 4 ^ d → getD t k 0 < 4 ^ d
+  table-inside k h = rw same (places d good .inside k h)

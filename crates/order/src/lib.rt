@@ -1,9 +1,8 @@
 // The order of the coefficients of a block, and negabinary.
+mod by_table;
 mod table;
 
-use crate::table::place;
-use words::nega;
-use words::unnega;
+use crate::table::by_dimension;
 ghost use mathlib.Core.Path.{_≡_};
 ghost use mathlib.Core.List.{map};
 ghost use Prim.Native.Nat.{_^_};
@@ -18,11 +17,7 @@ pub fn arrange(size: u32, d: u32, words: &[u64], cs: &mut [u64])
     requires { ⌜ Size size × Dimension d × (length (now words) ≡ 4 ^ d) × (length (now cs) ≡ 4 ^ d) ⌝ }
     ensures { λ _. ⌜ now (cs .exit) ≡ map (nega size) (reorder (order d) (now (words .entry))) ⌝ }
 {
-    let mut k = 0;
-    while k < cs.len() {
-        cs[k] = nega(size, words[place(d, k)]);
-        k += 1;
-    }
+    by_dimension(size, d, false, words, cs);
 }
 
 // The words of negabinary coefficients, each at its place.
@@ -30,9 +25,5 @@ pub fn put_back(size: u32, d: u32, cs: &[u64], words: &mut [u64])
     requires { ⌜ Size size × Dimension d × (length (now cs) ≡ 4 ^ d) × (length (now words) ≡ 4 ^ d) ⌝ }
     ensures { λ _. ⌜ now (words .exit) ≡ restore (order d) (map (unnega size) (now (cs .entry))) ⌝ }
 {
-    let mut k = 0;
-    while k < cs.len() {
-        words[place(d, k)] = unnega(size, cs[k]);
-        k += 1;
-    }
+    by_dimension(size, d, true, cs, words);
 }

@@ -1,15 +1,21 @@
 // The order of coefficients as tables of places: by the sum of the indices, then by the sum of their squares, then larger first index, larger second, and so on.
+// A table is copied to the stack where it is used, so it is used whole.
+use crate::by_table::by_table;
 ghost use mathlib.Core.Path.{_≡_};
-ghost use Prim.Native.Nat.{_^_, _<_};
-ghost use lib.ListN.{getD};
+ghost use Prim.Native.Nat.{_^_};
+ghost use lib.ListN.{length};
+ghost use Rattle.words.specs.Calls.{Size};
 ghost use Rattle.params.specs.Dimension.{Dimension};
-ghost use Rattle.order.specs.Order.{order};
+ghost use Rattle.order.specs.Calls.{reordered};
+
+// A line of four places.
+const LINE: [u8; 4] = [0, 1, 2, 3];
 
 // Four rows of four places.
-const SQUARE: [usize; 16] = [0, 1, 4, 5, 2, 8, 6, 9, 3, 12, 10, 7, 13, 11, 14, 15];
+const SQUARE: [u8; 16] = [0, 1, 4, 5, 2, 8, 6, 9, 3, 12, 10, 7, 13, 11, 14, 15];
 
 // Four squares.
-const CUBE: [usize; 64] = [
+const CUBE: [u8; 64] = [
     0,
     1,
     4,
@@ -77,7 +83,7 @@ const CUBE: [usize; 64] = [
 ];
 
 // Four cubes.
-const STACK: [usize; 256] = [
+const STACK: [u8; 256] = [
     0,
     1,
     4,
@@ -336,43 +342,23 @@ const STACK: [usize; 256] = [
     255,
 ];
 
-// The place of coefficient k of a square.
-fn in_square(k: usize) -> usize
-    requires { ⌜ k < 16 ⌝ }
-    ensures { λ r. ⌜ r ≡ getD (order 2) k 0 ⌝ }
-{
-    SQUARE[k]
-}
-
-// Of a cube.
-fn in_cube(k: usize) -> usize
-    requires { ⌜ k < 64 ⌝ }
-    ensures { λ r. ⌜ r ≡ getD (order 3) k 0 ⌝ }
-{
-    CUBE[k]
-}
-
-// Of a stack of four cubes.
-fn in_stack(k: usize) -> usize
-    requires { ⌜ k < 256 ⌝ }
-    ensures { λ r. ⌜ r ≡ getD (order 4) k 0 ⌝ }
-{
-    STACK[k]
-}
-
-// The place of coefficient k in dimension d.
-pub fn place(d: u32, k: usize) -> usize
-    requires { ⌜ Dimension d × (k < 4 ^ d) ⌝ }
-    ensures { λ r. ⌜ (r ≡ getD (order d) k 0) × (r < 4 ^ d) ⌝ }
+// Coefficients from words, or back, in the order of the table of dimension d.
+pub fn by_dimension(size: u32, d: u32, back: bool, from: &[u64], to: &mut [u64])
+    requires { ⌜ Size size × Dimension d × (length (now from) ≡ 4 ^ d) × (length (now to) ≡ 4 ^ d) ⌝ }
+    ensures { λ _. ⌜ now (to .exit) ≡ reordered size d back (now (from .entry)) ⌝ }
 {
     if d == 1 {
-        return k;
+        let table = LINE;
+        return by_table(size, d, back, &table, from, to);
     }
     if d == 2 {
-        return in_square(k);
+        let table = SQUARE;
+        return by_table(size, d, back, &table, from, to);
     }
     if d == 3 {
-        return in_cube(k);
+        let table = CUBE;
+        return by_table(size, d, back, &table, from, to);
     }
-    in_stack(k)
+    let table = STACK;
+    by_table(size, d, back, &table, from, to)
 }
