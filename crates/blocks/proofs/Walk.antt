@@ -30,10 +30,6 @@ module _ (s l : ℕ) (some : 0 < s) where
   line-of j h =
       rw (place-is j, digits-div (l / s * 4 + j) (mod-lt l some), digits-mod (l / s * 4 + j) (mod-lt l some), digits-div (l / s) h) (div-add-mod' l s)
 
-  pub line-start-low : lineStartOf s l ≤ 4 * l
-  unfolding lineStartOf
-  line-start-low = omega (arith, div-add-mod' l s)
-
   pub line-inside : (m : ℕ) → l < m * s → lineStartOf s l + 3 * s < m * 4 * s
   line-inside m h =
       rw (place-is 3) (digits-lt (digits-lt (div-lt-iff-lt-mul some .1 h) (omega arith)) (mod-lt l some))

@@ -210,7 +210,8 @@ ramp d a = tabulate (4 ^ d) (λ p. p / 4 ^ a % 4)
 abbrev pub oneAt : ℕ → List Bool
 oneAt n = replicate 5 true ++ replicate 31 false ++ (true ∷ replicate n false) ++ (true ∷ false ∷ [])
 
--- "transformed axis by axis", "then larger first index, then larger second, and so on": a ramp has one coefficient, and that along i goes before those along j, k and l
+-- "transformed axis by axis", "then larger first index, then larger second, and so on": a ramp has one coefficient, and that along i goes before those along
+-- j, k and l
 abbrev pub RampsTold : Type 0
 RampsTold =
     (definedCode binary32 false true 3 32 0 (ramp 3 0) ≡ oneAt 1)

@@ -75,5 +75,6 @@ module _ {f : Format} {float exact planes : Bool} {ws ws′ : List ℕ} {head bi
       → Written mid after out₁ limit (integersCode f exact d p ws′) out₂ → Written before after out limit (uncutCode f float exact d p ws) out₂
   with-planes e r₁ r₂ = rw (form .code d p, e) (written-append r₁ r₂)
 
-  pub without-planes : planes ≡ false → Written before mid out limit (numberBits bits head) out₁ → Written before mid out limit (uncutCode f float exact d p ws) out₁
+  pub without-planes : planes ≡ false → Written before mid out limit (numberBits bits head) out₁
+      → Written before mid out limit (uncutCode f float exact d p ws) out₁
   without-planes e r₁ = rw (form .code d p, e, append-nil (numberBits bits head)) r₁

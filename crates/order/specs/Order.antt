@@ -30,8 +30,8 @@ larger [] js = false
 larger (i ∷ is) [] = false
 larger (i ∷ is) (j ∷ js) = smaller j i (larger is js)
 
--- "by i+j, then by i^2+j^2, ties by larger i first", and in more dimensions "by the sum of the indices, then by the sum of their squares, then larger first index,
--- then larger second, and so on": the place with the indices is goes before the one with js
+-- "by i+j, then by i^2+j^2, ties by larger i first", and in more dimensions "by the sum of the indices, then by the sum of their squares, then larger first
+-- index, then larger second, and so on": the place with the indices is goes before the one with js
 abbrev pub goesBefore : List ℕ → List ℕ → Bool
 goesBefore is js = smaller (sum is) (sum js) (smaller (sumOfSquares is) (sumOfSquares js) (larger is js))
 

@@ -1,4 +1,5 @@
--- The order of coefficients in dimensions 3 and 4 as tables of places (document 02, M-100); `Order.inOrder` is their rule. They stay shut: a goal does not print them.
+-- The order of coefficients in dimensions 3 and 4 as tables of places (document 02, M-100); `Order.inOrder` is their rule. They stay shut, so that no goal
+-- prints them.
 use mathlib.Core.List.{List, [], _∷_}
 use Prim.Native.Nat.{ℕ}
 

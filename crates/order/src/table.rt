@@ -1,5 +1,5 @@
-// The order of coefficients as tables of places: by the sum of the indices, then by the sum of their squares, then larger first index, larger second, and so on.
-// A table is copied to the stack where it is used, so it is used whole.
+// The order of coefficients as tables of places: by the sum of the indices, then by the sum of their squares, then larger first index, larger second, and so
+// on. A table is copied to the stack where it is used, so it is used whole.
 use crate::by_table::by_table;
 ghost use mathlib.Core.Path.{_≡_};
 ghost use Prim.Native.Nat.{_^_};

@@ -20,7 +20,8 @@ some : (c : tie.After-block-exponent) → allZero (entry c .args .words .now) �
 some c = let branch = c .before .before in sym (branch .before .all-zero .ensures) ∙ branch .if1 .left
 
 -- all words are whole multiples there, and the exponent is small
-whole : (c : tie.Then2) → let e = c .before .before .before in allWhole (formatOf (entry e .args .size)) (e .block-exponent .result) (entry e .args .words .now) ≡ true
+whole : (c : tie.Then2)
+    → let e = c .before .before .before in allWhole (formatOf (entry e .args .size)) (e .block-exponent .result) (entry e .args .words .now) ≡ true
 whole c = sym (c .before .all-whole .ensures) ∙ c .if2 .taken
 
 small : (c : tie.Then2) → c .before .before .before .block-exponent .result < 2048

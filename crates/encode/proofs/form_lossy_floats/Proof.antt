@@ -59,7 +59,8 @@ returns-2 c =
     let branch = e .before .before in
     let a = entry e .args in
     let some = sym (branch .before .no-magnitude .ensures) ∙ branch .if1 .left in
-    lossy-some (formatOf (a .size)) (a .words .now) (e .block-exponent .result) (e .block-exponent .ensures) (c .field-bits .ensures .0) (c .field-bits .ensures .1)
+    lossy-some (formatOf (a .size)) (a .words .now) (e .block-exponent .result) (e .block-exponent .ensures)
+    (c .field-bits .ensures .0) (c .field-bits .ensures .1)
     some (made .change-all .ensures)
 
 pub form-lossy-floats-spec : {M : Type 1} → statement M

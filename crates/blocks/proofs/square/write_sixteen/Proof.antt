@@ -21,7 +21,8 @@ returns : tie.Need-returns
 returns c =
     let d = c .before .before in
     let s = d .before .before .before .before .before .before in
-    d .put-flat .ensures ∙ d .before .before .write-square .ensures ∙ ap (forward (s .args .size) (s .args .exact) 2) (d .before .before .before .square-of .ensures)
+    d .put-flat .ensures ∙ d .before .before .write-square .ensures
+    ∙ ap (forward (s .args .size) (s .args .exact) 2) (d .before .before .before .square-of .ensures)
 
 pub write-sixteen-spec : {M : Type 1} → statement M
 write-sixteen-spec =

@@ -21,12 +21,19 @@ Inv-loop size d table words cs₀ k₀ cs k =
 abbrev μ-loop : tie.MeasureT-loop
 μ-loop size d table words cs₀ k₀ cs k = 4 ^ d - k
 
--- a place of the table, seen from its reading
-place : (c : tie.After-index Inv-loop μ-loop) → let a = c .before .before .before .before .before .before .before .args in (c .index .result < 4 ^ a .d) × (4 ^ a .d ≤ mostWords)
+-- the loop's head seen from a place of the table, and the entry from there
+abbrev at-loop : tie.After-index Inv-loop μ-loop → tie.At-loop Inv-loop μ-loop
+at-loop c = c .before .before .before
+
+abbrev entry : tie.At-loop Inv-loop μ-loop → tie.Start Inv-loop μ-loop
+entry c = c .before .before .before .before
+
+-- the place is one of the block's
+place : (c : tie.After-index Inv-loop μ-loop) → (c .index .result < 4 ^ entry (at-loop c) .args .d) × (4 ^ entry (at-loop c) .args .d ≤ mostWords)
 place c =
-    let s = c .before .before .before .before .before .before .before in
+    let s = entry (at-loop c) in
     let a = s .args in
-    let low = table-inside (a .d) (s .pre .1) (a .table .now) (s .pre .2) (c .before .before .before .loop .k) (omega arith) in
+    let low = table-inside (a .d) (s .pre .1) (a .table .now) (s .pre .2) (at-loop c .loop .k) (omega arith) in
     (omega (arith, low, c .index .ensures), power-within (a .d) (s .pre .1 .0) (s .pre .1 .1) .1)
 
 loop-holds : tie.Need-loop-holds Inv-loop μ-loop
@@ -34,7 +41,7 @@ loop-holds c = search needs
 
 shared-slice-read-index : tie.Need-shared-slice-read-index Inv-loop μ-loop
 shared-slice-read-index c =
-    let s = c .before .before .before .before .before .before in
+    let s = entry (c .before .before) in
     omega (arith, table-long (s .args .d) (s .pre .1) (s .args .table .now) (s .pre .2))
 
 index-requires : tie.Need-index-requires Inv-loop μ-loop
@@ -44,7 +51,7 @@ mul-nega : tie.Need-mul-nega Inv-loop μ-loop
 mul-nega c = record { fits = omega (arith, place c) }
 
 shared-slice-read-nega : tie.Need-shared-slice-read-nega Inv-loop μ-loop
-shared-slice-read-nega c = omega (arith, place (c .before) .0, c .before .before .before .before .before .before .before .before .pre .3)
+shared-slice-read-nega c = omega (arith, place (c .before) .0, entry (at-loop (c .before)) .pre .3)
 
 nega-requires : tie.Need-nega-requires Inv-loop μ-loop
 nega-requires c κs = search needs
@@ -63,8 +70,8 @@ loop-less c = search needs
 
 loop-again : tie.Need-loop-again Inv-loop μ-loop
 loop-again c =
-    let h = c .before .before .before .before .before in
-    let s = c .before .before .before .before .before .before .before .before .before in
+    let h = at-loop (c .before .before) in
+    let s = entry h in
     let a = s .args in
     let l = h .loop in
     let p = c .before .before .index .ensures ∙ ap (λ (t : List ℕ). getD t (l .k) 0) (s .pre .2) in
@@ -80,7 +87,7 @@ same-length c = search needs
 returns : tie.Need-returns Inv-loop μ-loop
 returns c =
     let l = c .before .loop in
-    let s = c .before .before .before .before .before in
+    let s = entry (c .before) in
     let a = s .args in
     let e : l .k ≡ 4 ^ a .d = omega arith in
     gathered (nega (a .size)) (4 ^ a .d) (order (a .d)) (places (a .d) (s .pre .1)) (a .words .now) (l .cs) (l .inv .1) (rw e at (l .inv .2))

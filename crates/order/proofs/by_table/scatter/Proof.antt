@@ -21,12 +21,19 @@ Inv-loop size d table cs words₀ k₀ words k =
 abbrev μ-loop : tie.MeasureT-loop
 μ-loop size d table cs words₀ k₀ words k = 4 ^ d - k
 
--- a place of the table, seen from its reading
-place : (c : tie.After-index Inv-loop μ-loop) → let a = c .before .before .before .before .before .before .before .before .before .args in (c .index .result < 4 ^ a .d) × (4 ^ a .d ≤ mostWords)
+-- the loop's head seen from a place of the table, and the entry from there
+abbrev at-loop : tie.After-index Inv-loop μ-loop → tie.At-loop Inv-loop μ-loop
+at-loop c = c .before .before .before .before .before
+
+abbrev entry : tie.At-loop Inv-loop μ-loop → tie.Start Inv-loop μ-loop
+entry c = c .before .before .before .before
+
+-- the place is one of the block's
+place : (c : tie.After-index Inv-loop μ-loop) → (c .index .result < 4 ^ entry (at-loop c) .args .d) × (4 ^ entry (at-loop c) .args .d ≤ mostWords)
 place c =
-    let s = c .before .before .before .before .before .before .before .before .before in
+    let s = entry (at-loop c) in
     let a = s .args in
-    let low = table-inside (a .d) (s .pre .1) (a .table .now) (s .pre .2) (c .before .before .before .before .before .loop .k) (omega arith) in
+    let low = table-inside (a .d) (s .pre .1) (a .table .now) (s .pre .2) (at-loop c .loop .k) (omega arith) in
     (omega (arith, low, c .index .ensures), power-within (a .d) (s .pre .1 .0) (s .pre .1 .1) .1)
 
 loop-holds : tie.Need-loop-holds Inv-loop μ-loop
@@ -43,7 +50,7 @@ unnega-requires c κs = search needs
 
 shared-slice-read-index : tie.Need-shared-slice-read-index Inv-loop μ-loop
 shared-slice-read-index c =
-    let s = c .before .before .before .before .before .before .before .before in
+    let s = entry (c .before .before .before .before) in
     omega (arith, table-long (s .args .d) (s .pre .1) (s .args .table .now) (s .pre .2))
 
 index-requires : tie.Need-index-requires Inv-loop μ-loop
@@ -53,7 +60,7 @@ mul-words : tie.Need-mul-words Inv-loop μ-loop
 mul-words c = record { fits = omega (arith, place c) }
 
 slice-write-words : tie.Need-slice-write-words Inv-loop μ-loop
-slice-write-words c = omega (arith, place c .0, c .before .before .before .before .before .loop .inv .1)
+slice-write-words c = omega (arith, place c .0, at-loop c .loop .inv .1)
 
 add-k : tie.Need-add-k Inv-loop μ-loop
 add-k c = search needs
@@ -63,14 +70,15 @@ loop-less c = search needs
 
 loop-again : tie.Need-loop-again Inv-loop μ-loop
 loop-again c =
-    let s = c .before .before .before .before .before .before .before .before .before in
+    let s = entry (at-loop c) in
     let a = s .args in
-    let l = c .before .before .before .before .before .loop in
+    let l = at-loop c .loop in
+    let word = c .before .before .unnega in
     let table = places (a .d) (s .pre .1) in
     let p = c .index .ensures ∙ ap (λ (t : List ℕ). getD t (l .k) 0) (s .pre .2) in (
       search needs,
       simp length-set (l .inv .1),
-      fill-more _ _ (l .words) (l .k) (c .index .result) (c .before .before .unnega .result) p (c .before .before .unnega .ensures) (omega (arith, place c .0, l .inv .1))
+      fill-more _ _ (l .words) (l .k) (c .index .result) (word .result) p (word .ensures) (omega (arith, place c .0, l .inv .1))
           (λ i h e. entries-apart (4 ^ a .d) (order (a .d)) table i (l .k) h (omega arith) (e ∙ p)) (l .inv .2),
     )
 
@@ -80,7 +88,7 @@ same-length c = search needs
 returns : tie.Need-returns Inv-loop μ-loop
 returns c =
     let l = c .before .loop in
-    let s = c .before .before .before .before .before in
+    let s = entry (c .before) in
     let a = s .args in
     let e : l .k ≡ 4 ^ a .d = omega arith in
     scattered (unnega (a .size)) (4 ^ a .d) (order (a .d)) (places (a .d) (s .pre .1)) (a .cs .now) (l .words) (l .inv .1) (s .pre .3) (rw e at (l .inv .2))
