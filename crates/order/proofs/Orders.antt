@@ -1,5 +1,5 @@
 -- The rule of the order, carried from the test of a whole table to its entries; the table of every dimension passes it.
-use mathlib.Core.Path.{_≡_, refl, ap, _∙_}
+use mathlib.Core.Path.{_≡_, refl, sym, ap, _∙_}
 use mathlib.Core.Bool.{true, and-eq-true-iff}
 use mathlib.Core.List.{List}
 use Prim.Native.Nat.{ℕ, zero, suc, _-_, _^_, _<_}
@@ -32,6 +32,10 @@ in-order (suc (suc (suc (suc (suc d))))) h = absurd (omega arith)
 
 pub places : (d : ℕ) → Dimension d → Permutation (4 ^ d) (order d)
 places d good = ordered d (order d) (in-order d good) .places
+
+-- the table of e, in a dimension that is e
+pub table-of : (d e : ℕ) → d ≡ e → {t : List ℕ} → t ≡ order e → t ≡ order d
+table-of d e same here = here ∙ ap order (sym same)
 
 -- a list that is the table of dimension d
 module _ (d : ℕ) (good : Dimension d) (t : List ℕ) (same : t ≡ order d) where

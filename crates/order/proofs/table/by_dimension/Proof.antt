@@ -1,7 +1,8 @@
 -- `order::table::by_dimension` meets its contract: each dimension has its table.
-use mathlib.Core.Path.{_≡_}
+use mathlib.Core.Path.{refl}
 use native.Mathlib.Omega.{arith}
 use Rattle.order.specs.Tables.{cubeOrder, stackOrder}
+use Rattle.order.proofs.Orders.{table-of}
 use borrow.Author.Needs.{needs}
 use Rattle.order.proofs.table.by_dimension.Statement.{statement}
 use Rattle.order.proofs.table.by_dimension.Tie as tie
@@ -10,7 +11,9 @@ slice-aggregate-by-table : tie.Need-slice-aggregate-by-table
 slice-aggregate-by-table c = search needs
 
 by-table-requires : tie.Need-by-table-requires
-by-table-requires c κs = search needs
+by-table-requires c κs =
+    let s = c .before .before .before .before .before in
+    (s .pre .0, s .pre .1, table-of (s .args .d) 1 (omega arith) refl, s .pre .2, s .pre .3)
 
 same-length : tie.Need-same-length
 same-length c = search needs
@@ -22,7 +25,9 @@ slice-aggregate-by-table-2 : tie.Need-slice-aggregate-by-table-2
 slice-aggregate-by-table-2 c = search needs
 
 by-table-requires-2 : tie.Need-by-table-requires-2
-by-table-requires-2 c κs = search needs
+by-table-requires-2 c κs =
+    let s = c .before .before .before .before .before .before in
+    (s .pre .0, s .pre .1, table-of (s .args .d) 2 (omega arith) refl, s .pre .2, s .pre .3)
 
 same-length-2 : tie.Need-same-length-2
 same-length-2 c = search needs
@@ -37,8 +42,7 @@ by-table-requires-3 : tie.Need-by-table-requires-3
 unfolding cubeOrder
 by-table-requires-3 c κs =
     let s = c .before .before .before .before .before .before .before in
-    let e : s .args .d ≡ 3 = omega arith in
-    (s .pre .0, s .pre .1, rw e, s .pre .2, s .pre .3)
+    (s .pre .0, s .pre .1, table-of (s .args .d) 3 (omega arith) refl, s .pre .2, s .pre .3)
 
 same-length-3 : tie.Need-same-length-3
 same-length-3 c = search needs
@@ -53,8 +57,7 @@ by-table-requires-4 : tie.Need-by-table-requires-4
 unfolding stackOrder
 by-table-requires-4 c κs =
     let s = c .before .before .before .before .before .before .before in
-    let e : s .args .d ≡ 4 = omega arith in
-    (s .pre .0, s .pre .1, rw e, s .pre .2, s .pre .3)
+    (s .pre .0, s .pre .1, table-of (s .args .d) 4 (omega arith) refl, s .pre .2, s .pre .3)
 
 same-length-4 : tie.Need-same-length-4
 same-length-4 c = search needs
