@@ -34,15 +34,28 @@ pub fn copy_bits(from: &[u8], skip: usize, buf: &mut [u8], at: usize, count: usi
     bits::put_part(buf, at + done, count - done, last);
 }
 
+// Stores zeros in `count` bytes from `start` on.
+fn zero_bytes(buf: &mut [u8], start: usize, count: usize)
+    requires { ⌜ (start + count ≤ length (now buf)) × (start + count < 2 ^ 32) ⌝ }
+    ensures { λ _. ⌜ bitsOf (now (buf .exit)) ≡ sets (bitsOf (now (buf .entry))) (8 * start) (replicate (8 * count) false) ⌝ }
+{
+    let mut i = 0;
+    while i < count {
+        bits::put_part(buf, 8 * (start + i), 8, 0);
+        i += 1;
+    }
+}
+
 // Stores zeros from `at` up to `end`, one write for each byte.
 pub fn zero_bits(buf: &mut [u8], at: usize, end: usize)
     requires { ⌜ (at ≤ end) × (end ≤ 8 * length (now buf)) × (end < 2 ^ 32) ⌝ }
     ensures { λ _. ⌜ bitsOf (now (buf .exit)) ≡ sets (bitsOf (now (buf .entry))) at (replicate (end - at) false) ⌝ }
 {
-    let mut i = at;
-    while i < end {
-        let part = bits::least(end - i, 8 - i % 8);
-        bits::put_part(buf, i, part, 0);
-        i += part;
-    }
+    let first = bits::least(end - at, 8 - at % 8);
+    bits::put_part(buf, at, first, 0);
+    let from = at + first;
+    let bytes = (end - from) / 8;
+    zero_bytes(buf, from / 8, bytes);
+    let done = from + 8 * bytes;
+    bits::put_part(buf, done, end - done, 0);
 }

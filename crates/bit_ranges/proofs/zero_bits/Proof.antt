@@ -1,78 +1,81 @@
--- The invariant: the zeros that are left, stored from here, give what all of them give from the start. Assumes nothing.
-use Rattle.bit_ranges.proofs.ZerosStored.{zeros-more}
+-- The rest of a byte, whole bytes, and the rest of the bits. Assumes nothing.
+use Rattle.bit_ranges.proofs.ZerosStored.{zeros-part, zeros-bytes}
 use Rattle.bits.specs.Stream.{bitsOf}
-use lib.Seq.{sets}
-use lib.ListN.{length, replicate}
 use native.Mathlib.Omega.{arith}
-use Prim.Native.Nat.{_-_, _≤_}
-use mathlib.Core.Bool.{false}
-use mathlib.Core.Path.{_≡_, refl, _∙_}
+use Prim.Native.Nat.{_+_, _-_, _*_, _/_}
+use mathlib.Core.Path.{refl}
 use borrow.Author.Needs.{needs}
 use Rattle.bit_ranges.proofs.zero_bits.Statement.{statement}
 use Rattle.bit_ranges.proofs.zero_bits.Tie as tie
 
-abbrev Inv-loop : tie.InvT-loop
-Inv-loop buf₀ at end i₀ buf i =
-    (i ≤ end) × (length buf ≡ length buf₀) × (sets (bitsOf buf) i (replicate (end - i) false) ≡ sets (bitsOf buf₀) at (replicate (end - at) false))
-
-abbrev μ-loop : tie.MeasureT-loop
-μ-loop buf₀ at end i₀ buf i = end - i
-
-loop-holds : tie.Need-loop-holds Inv-loop μ-loop
-loop-holds c = (search needs, refl, refl)
-
-sub-least : tie.Need-sub-least Inv-loop μ-loop
+sub-least : tie.Need-sub-least
 sub-least c = search needs
 
-sub-least-2 : tie.Need-sub-least-2 Inv-loop μ-loop
+sub-least-2 : tie.Need-sub-least-2
 sub-least-2 c = search needs
 
-least-requires : tie.Need-least-requires Inv-loop μ-loop
+least-requires : tie.Need-least-requires
 least-requires c κs = search needs
 
-put-part-requires : tie.Need-put-part-requires Inv-loop μ-loop
+put-part-requires : tie.Need-put-part-requires
 put-part-requires c κs = search needs
 
-add-i : tie.Need-add-i Inv-loop μ-loop
-add-i c = search needs
+add-from : tie.Need-add-from
+add-from c = search needs
 
-loop-less : tie.Need-loop-less Inv-loop μ-loop
-loop-less c = search needs
+sub-bytes : tie.Need-sub-bytes
+sub-bytes c = search needs
 
-loop-again : tie.Need-loop-again Inv-loop μ-loop
-loop-again c =
-    let put = c .before .before in
-    let part = put .before .before in
-    let l = part .before .before .loop in
-    let s = part .before .before .before .before in (
-      search needs,
-      put .put-part .kept .0 ∙ l .inv .1,
-      zeros-more (bitsOf (l .buf)) (l .i) (part .least .result) (s .args .end) (omega (arith, part .least .ensures)) (put .put-part .ensures) ∙ l .inv .2,
-    )
+zero-bytes-requires : tie.Need-zero-bytes-requires
+zero-bytes-requires c κs = search needs
 
-same-length : tie.Need-same-length Inv-loop μ-loop
+mul-done : tie.Need-mul-done
+mul-done c = search needs
+
+add-done : tie.Need-add-done
+add-done c = search needs
+
+sub-put-part : tie.Need-sub-put-part
+sub-put-part c = search needs
+
+put-part-requires-2 : tie.Need-put-part-requires-2
+put-part-requires-2 c κs = search needs
+
+same-length : tie.Need-same-length
 same-length c = search needs
 
-returns : tie.Need-returns Inv-loop μ-loop
+returns : tie.Need-returns
 returns c =
-    let l = c .before .loop in
-    let s = c .before .before .before in
-    let none : s .args .end - l .i ≡ 0 = omega arith in
-    rw none at (l .inv .2)
+    let three = c .before .before in
+    let two = three .before .before .before .before in
+    let one = two .before .before .before .before in
+    let part = one .before .before in
+    let s = part .before .before in
+    let d = bitsOf (s .args .buf .now) in
+    let at = s .args .at in
+    let end = s .args .end in
+    let first = part .least .result in
+    let from = at + first in
+    let bytes = (end - from) / 8 in
+    let done = from + 8 * bytes in
+    let after₁ = zeros-part d at 0 first first at (omega arith) (omega arith) refl (one .put-part .ensures) in
+    let after₂ = zeros-bytes d at first bytes (first + 8 * bytes) (from / 8) (λ h. omega (arith, part .least .ensures)) refl after₁ (two .zero-bytes .ensures) in
+    zeros-part d at (first + 8 * bytes) (end - done) (end - at) done (omega arith) (omega (arith, part .least .ensures)) after₂ (three .put-part2 .ensures)
 
 pub zero-bits-spec : {M : Type 1} → statement M
 zero-bits-spec =
     tie.close
     (tie.spec
-    Inv-loop
-    μ-loop
-    loop-holds
     sub-least
     sub-least-2
     least-requires
     put-part-requires
-    add-i
-    loop-less
-    loop-again
+    add-from
+    sub-bytes
+    zero-bytes-requires
+    mul-done
+    add-done
+    sub-put-part
+    put-part-requires-2
     same-length
     returns)
