@@ -59,7 +59,8 @@ returns c =
     let bytes = (end - from) / 8 in
     let done = from + 8 * bytes in
     let after₁ = zeros-part d at 0 first first at (omega arith) (omega arith) refl (one .put-part .ensures) in
-    let after₂ = zeros-bytes d at first bytes (first + 8 * bytes) (from / 8) (λ h. omega (arith, part .least .ensures)) refl after₁ (two .zero-bytes .ensures) in
+    let after₂ =
+    zeros-bytes d at first bytes (first + 8 * bytes) (from / 8) (λ h. omega (arith, part .least .ensures)) refl after₁ (two .zero-bytes .ensures) in
     zeros-part d at (first + 8 * bytes) (end - done) (end - at) done (omega arith) (omega (arith, part .least .ensures)) after₂ (three .put-part2 .ensures)
 
 pub zero-bits-spec : {M : Type 1} → statement M
