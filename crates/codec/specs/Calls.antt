@@ -3,7 +3,7 @@ pub mod Padded
 use mathlib.Core.Path.{_≡_}
 use mathlib.Core.Bool.{Bool, true, false, cond}
 use mathlib.Core.List.{List, [], _++_}
-use Prim.Native.Nat.{ℕ, _+_, _*_, _^_, _≤_, _<_}
+use Prim.Native.Nat.{ℕ, _+_, _-_, _*_, _^_, _≤_, _<_}
 use lib.Ieee.{Format, ones}
 use lib.ListN.{length, getD}
 use Rattle.bits.specs.Stream.{numberBits}
@@ -20,6 +20,7 @@ use Rattle.codec.specs.declared.change.Change.{Change}
 use Rattle.codec.specs.declared.change.Change.the-variants.{ToInteger, ToPattern, Flip}
 use Rattle.codec.specs.Head.{exactPlanes}
 use Rattle.codec.specs.Code.{lossyPlanes, floatPlanes, exactIntegers, exactFloats}
+use Rattle.codec.specs.Depth.{wholeIntegers, wholeWritten}
 
 -- ---- blocks, and the bits that are read
 
@@ -71,7 +72,9 @@ uncutCode f true false d p ws = uncutFloats f d p ws
 uncutCode f false true d p ws = exactIntegers f d ws
 uncutCode f true true d p ws = exactFloats f d ws
 
--- a block's form: what stands in front of its planes, as a number of so many bits, whether planes follow, and the integers ws′ that they are of
+-- a block's form: what stands in front of its planes, as a number of so many bits, whether planes follow, and the integers ws′ that they are of; what
+-- it takes of the width is not in the budget of the planes
 pub record Formed (f : Format) (float exact : Bool) (ws ws′ : List ℕ) (head bits : ℕ) (planes : Bool) : Type 0 where
   pub code : (d p : ℕ) → uncutCode f float exact d p ws ≡ numberBits bits head ++ cond planes (integersCode f exact d p ws′) []
+  pub whole : (d p width : ℕ) → wholeWritten f float exact d p width ws ≡ cond planes (wholeIntegers f exact d p (width - bits) ws′) 0
   pub short : bits ≤ 13

@@ -6,8 +6,8 @@ use Prim.Native.Nat.{ℕ, _+_, _≤_}
 use lib.Dec.{leb}
 use lib.ListN.{length}
 use lib.Seq.{slice}
-use Rattle.planes.specs.Reader.{Got, readPlane, readNext, addPlane, readWords}
-use Rattle.planes.specs.Calls.{addAt, wholePlanes, restPlanes}
+use Rattle.planes.specs.Reader.{Got, readPlane, readNext, addPlane, readWords, wholePlanes}
+use Rattle.planes.specs.Calls.{addAt, restPlanes}
 
 -- what reading a test or a scan at place n of plane k does: g's bits go into the words, and g's rest is left of the stream d up to `end`;
 -- the place after it is past `end` where the budget cuts it

@@ -1,10 +1,11 @@
 // The coder: writes the planes of words to a stream of bits, below a limit.
 ghost use mathlib.Core.Path.{_≡_};
 ghost use Prim.Native.Nat.{ℕ, _+_, _-_, _*_, _^_, _≤_, _<_};
+ghost use lib.Dec.{leb};
 ghost use lib.ListN.{length, getD, take, drop};
-ghost use Rattle.bits.specs.Stream.{bit, bitsOf};
+ghost use Rattle.bits.specs.Stream.{bit, digit, bitsOf};
 ghost use Rattle.bits.specs.Calls.{Written};
-ghost use Rattle.planes.specs.Coder.{plane, any, onesEnd, scan, test, scanMoves, planeCode, planeNext, planesCode};
+ghost use Rattle.planes.specs.Coder.{plane, any, onesEnd, scan, test, scanMoves, planeCode, planeNext, planesCode, planesWithin};
 ghost use Rattle.planes.specs.Calls.{Advanced};
 use bits::Cursor;
 
@@ -14,9 +15,10 @@ struct Coder {
     pub n: usize,
 }
 
-// What the coder did.
+// What the coder did: where it stands, and how many planes were written whole within the budget.
 pub struct Coded {
     pub out: Cursor,
+    pub whole: u32,
 }
 
 // Bit k of word i.
@@ -141,7 +143,15 @@ fn put_plane(words: &[u64], k: u32, n: usize, buf: &mut [u8], out: Cursor, limit
     }
 }
 
-// The planes of words of `size` bits from the top one downward, p of them.
+// 1 for a code of so many bits within the budget, 0 for a longer one.
+fn within(used: usize, budget: usize) -> u32
+    ensures { λ r. ⌜ r ≡ digit (leb used budget) ⌝ }
+{
+    (used <= budget) as u32
+}
+
+// The planes of words of `size` bits from the top one downward, p of them. The budget, in bits of their code, is for the count of whole planes; what is
+// written ends at the limit.
 pub fn put_planes(
     size: u32,
     words: &[u64],
@@ -149,19 +159,23 @@ pub fn put_planes(
     buf: &mut [u8],
     out: Cursor,
     limit: usize,
+    budget: usize,
 ) -> Coded
     requires { ⌜ (size ≤ 64) × (p ≤ size) × (length (now words) ≤ 256) × (limit ≤ 8 * length (now buf)) × (out .at < 2 ^ 31) ⌝ }
-    ensures { λ r. ⌜ Written (bitsOf (now (buf .entry))) (bitsOf (now (buf .exit))) out limit (planesCode size p (now (words .entry))) (r .out) ⌝ }
+    ensures { λ r. ⌜ Written (bitsOf (now (buf .entry))) (bitsOf (now (buf .exit))) out limit (planesCode size p (now (words .entry))) (r .out)
+        × (r .whole ≡ planesWithin size p budget (now (words .entry))) ⌝ }
 {
     let lowest = size - p;
     let mut next = out;
     let mut n = 0;
+    let mut whole: u32 = 0;
     let mut k = size;
     while lowest < k {
         k -= 1;
         let c = put_plane(words, k, n, buf, next, limit);
         next = c.out;
         n = c.n;
+        whole += within(next.at - out.at, budget);
     }
-    Coded { out: next }
+    Coded { out: next, whole }
 }

@@ -1,6 +1,6 @@
 -- What the contracts of `planes` and of the crates above it need beside document 01's definitions.
 use mathlib.Core.Path.{_≡_}
-use mathlib.Core.Bool.{Bool, cond}
+use mathlib.Core.Bool.{Bool}
 use mathlib.Core.List.{List, [], _∷_, _++_}
 use Prim.Native.Nat.{ℕ, zero, suc, _+_, _^_, _≤_}
 use lib.ListN.{take, drop}
@@ -26,14 +26,7 @@ abbrev pub Room : ℕ → ℕ → List ℕ → Type 0
 Room w m [] = Unit {0}
 Room w m (x ∷ ws) = (x + 2 ^ m ≤ 2 ^ w) × Room w m ws
 
--- ---- how many planes the bits within the budget hold whole, and what they leave
-
--- of p planes of N places, of which the first starts at n, those that are whole; after one that the budget cuts there is none
-abbrev pub wholeFrom : ℕ → ℕ → ℕ → List Bool → ℕ
-wholeFrom N zero n s = 0
-wholeFrom N (suc p) n s =
-    let more = suc (wholeFrom N p (readNext N n s) (readPlane N n s .rest)) in
-    cond (readPlane N n s .whole) more 0
+-- ---- what the planes leave of the bits within the budget
 
 -- the bits that p planes leave
 abbrev pub restFrom : ℕ → ℕ → ℕ → List Bool → List Bool
@@ -41,8 +34,5 @@ restFrom N zero n s = s
 restFrom N (suc p) n s = restFrom N p (readNext N n s) (readPlane N n s .rest)
 
 -- the same of all planes, from n = 0
-unfoldable pub wholePlanes : ℕ → ℕ → List Bool → ℕ
-wholePlanes N p s = wholeFrom N p 0 s
-
 unfoldable pub restPlanes : ℕ → ℕ → List Bool → List Bool
 restPlanes N p s = restFrom N p 0 s

@@ -2,7 +2,8 @@
 use mathlib.Core.Bool.{Bool, true, false, _||_, cond}
 use mathlib.Core.List.{List, [], _∷_, _++_, map}
 use Prim.Native.Nat.{ℕ, zero, suc, _+_, _-_, _*_}
-use lib.ListN.{take, drop}
+use lib.Dec.{leb}
+use lib.ListN.{length, take, drop}
 use Rattle.bits.specs.Stream.{bit}
 
 -- plane k: bit k of every word
@@ -72,3 +73,21 @@ planesCode w p ws = codeFrom 0 (planesOf w p ws)
 -- the most bits that N words take in p planes: N x p + N - 1
 abbrev pub mostBits : ℕ → ℕ → ℕ
 mostBits N p = N * p + N - 1
+
+-- ---- document 02, M-101: "how many planes were written whole, final test included, within the budget"
+
+-- where the code of each plane ends, its final test included, if the first plane's starts at a place and has so many first bits
+abbrev pub endsFrom : ℕ → ℕ → List (List Bool) → List ℕ
+endsFrom at n [] = []
+endsFrom at n (bs ∷ rest) =
+    let end = at + length (planeCode n bs) in
+    end ∷ endsFrom end (planeNext n bs) rest
+
+-- how many of these are within a budget: a plane that the budget cuts is not counted, whatever the bits are that it loses
+abbrev pub within : ℕ → List ℕ → ℕ
+within budget [] = 0
+within budget (end ∷ ends) = cond (leb end budget) (suc (within budget ends)) (within budget ends)
+
+-- of words of w bits in p planes, those that are written whole within a budget
+unfoldable pub planesWithin : ℕ → ℕ → ℕ → List ℕ → ℕ
+planesWithin w p budget ws = within budget (endsFrom 0 0 (planesOf w p ws))

@@ -1,0 +1,169 @@
+-- How deep a budget gets: a reader of what the budget leaves counts as many whole planes as the writer.
+use mathlib.Core.Path.{_≡_, refl, sym, ap, _∙_}
+use mathlib.Core.Bool.{Bool, true, false, cond, _&&_}
+use mathlib.Core.List.{List, [], _∷_, _++_, append-nil}
+use Prim.Native.Nat.{ℕ, zero, suc, _+_, _-_, _≤_, _<_}
+use native.Mathlib.Omega.{arith}
+use borrow.Author.Tests.{le-leb, lt-leb, leb-true, leb-false}
+use lib.Dec.{leb}
+use lib.ListN.{length, take, drop, replicate, length-append, length-drop, length-map}
+use lib.Seq.{length-take-le, take-all, take-append-le, take-append-add, drop-at}
+use Rattle.bits.specs.Stream.{bit}
+use Rattle.planes.specs.Coder.{plane, planesOf, any, answer, scan, test, planeCode, planeNext, codeFrom, planesCode, endsFrom, within, planesWithin}
+use Rattle.planes.specs.Reader.{readTest, readScan, readPlane, readNext, wholeFrom, wholePlanes}
+use Rattle.planes.proofs.Bound.{plane-bound, planesOf-length}
+use Rattle.planes.proofs.RoundTrip.{plane-back, next-back}
+use Rattle.planes.proofs.Whole.{whole-back}
+
+-- ---- a strict prefix of a plane's code is not whole
+
+answer-cut : (a : Bool) (code : List Bool) (r k : ℕ) → k < length (answer a code)
+    → ((j : ℕ) → j < length code → readScan (take j code) r .whole ≡ false) → readTest (take k (answer a code)) (suc r) .whole ≡ false
+answer-cut true code r zero h scanned = refl
+answer-cut true code r (suc k) h scanned = scanned k (omega arith)
+answer-cut false code r zero h scanned = refl
+answer-cut false code r (suc k) h scanned = absurd (omega arith)
+
+scan-cut : (b : Bool) (bs : List Bool) (k : ℕ) → k < length (scan (b ∷ bs)) → readScan (take k (scan (b ∷ bs))) (length bs) .whole ≡ false
+scan-cut b [] k h = absurd (omega arith)
+scan-cut true (c ∷ cs) zero h = refl
+scan-cut true (c ∷ cs) (suc k) h = answer-cut (any (c ∷ cs)) (scan (c ∷ cs)) (length cs) k (omega arith) (λ j less. scan-cut c cs j less)
+scan-cut false (c ∷ cs) zero h = refl
+scan-cut false (c ∷ cs) (suc k) h = scan-cut c cs k (omega arith)
+
+test-cut : (bs : List Bool) (k : ℕ) → k < length (test bs) → readTest (take k (test bs)) (length bs) .whole ≡ false
+test-cut [] k h = absurd (omega arith)
+test-cut (b ∷ bs) k h = answer-cut (any (b ∷ bs)) (scan (b ∷ bs)) (length bs) k h (λ j less. scan-cut b bs j less)
+
+and-false : (a : Bool) {b : Bool} → b ≡ false → (a && b) ≡ false
+and-false true e = e
+and-false false e = refl
+
+-- reading a strict prefix of a plane's code is not whole
+module _ (N n : ℕ) (bs : List Bool) (e : length bs ≡ N) (hn : n ≤ N) where
+  first : length (take n bs) ≡ n
+  first = length-take-le n bs (omega arith)
+
+  -- the n first bits, and a strict prefix of the test after them
+  later : (k : ℕ) → k < length (test (drop n bs)) → readPlane N n (take n bs ++ take k (test (drop n bs))) .whole ≡ false
+  unfolding readPlane
+  later k h =
+      let left : N - n ≡ length (drop n bs) = omega (arith, length-drop n bs) in
+      rw (drop-at (take n bs) (take k (test (drop n bs))) n first, left) (and-false (leb n (length (take n bs ++ take k (test (drop n bs))))) (test-cut (drop n bs) k h))
+
+  pub plane-cut : (b : ℕ) → b < length (planeCode n bs) → readPlane N n (take b (planeCode n bs)) .whole ≡ false
+  unfolding planeCode readPlane
+  plane-cut b h = go (leb n b) refl
+    where
+      code : List Bool
+      code = take n bs ++ test (drop n bs)
+
+      go : (a : Bool) → leb n b ≡ a → readPlane N n (take b code) .whole ≡ false
+      go false t =
+          let short : leb n (length (take b code)) ≡ false = lt-leb n (length (take b code)) (omega (arith, leb-false n b t, length-take-le b code (omega arith))) in
+          rw short
+      go true t =
+          let more : b ≡ length (take n bs) + (b - n) = omega (arith, first, leb-true n b t) in
+          let split : take b code ≡ take n bs ++ take (b - n) (test (drop n bs)) = ap (λ (m : ℕ). take m code) more ∙ take-append-add (take n bs) (test (drop n bs)) (b - n) in
+          rw split (later (b - n) (omega (arith, first, length-append (take n bs) (test (drop n bs)), leb-true n b t)))
+
+-- ---- the ends of planes, and how many are within a budget
+
+-- never more than there are planes
+pub within-most : (budget at n : ℕ) (pls : List (List Bool)) → within budget (endsFrom at n pls) ≤ length pls
+within-most budget at n [] = omega arith
+within-most budget at n (bs ∷ pls) =
+    let end = at + length (planeCode n bs) in
+    go (leb end budget) (within-most budget end (planeNext n bs) pls)
+  where
+    go : (a : Bool) {m l : ℕ} → m ≤ l → cond a (suc m) m ≤ suc l
+    go true h = omega arith
+    go false h = omega arith
+
+-- no plane ends before the place where the first one starts
+past : (budget at n : ℕ) (pls : List (List Bool)) → budget < at → within budget (endsFrom at n pls) ≡ 0
+past budget at n [] h = refl
+past budget at n (bs ∷ pls) h =
+    let end = at + length (planeCode n bs) in
+    rw (lt-leb end budget (omega arith)) (past budget end (planeNext n bs) pls (omega arith))
+
+-- what the budget leaves of planes, read
+module _ (ws : List ℕ) where
+  cut-whole : (w p at n b : ℕ) → n ≤ length ws
+      → wholeFrom (length ws) p n (take b (codeFrom n (planesOf w p ws))) ≡ within (at + b) (endsFrom at n (planesOf w p ws))
+  cut-whole w zero at n b h = refl
+  cut-whole w (suc p) at n b h = go (leb l b) refl (λ at′ b′. cut-whole (w - 1) p at′ (planeNext n bs) b′ (plane-bound (length ws) n bs wide h .1))
+    where
+      bs : List Bool
+      bs = plane (w - 1) ws
+
+      l : ℕ
+      l = length (planeCode n bs)
+
+      more : List Bool
+      more = codeFrom (planeNext n bs) (planesOf (w - 1) p ws)
+
+      wide : length bs ≡ length ws
+      wide = length-map ws (bit (w - 1))
+
+      go : (a : Bool) → leb l b ≡ a
+          → ((at′ b′ : ℕ) → wholeFrom (length ws) p (planeNext n bs) (take b′ more) ≡ within (at′ + b′) (endsFrom at′ (planeNext n bs) (planesOf (w - 1) p ws)))
+          → wholeFrom (length ws) (suc p) n (take b (planeCode n bs ++ more)) ≡ within (at + b) (endsFrom at n (planesOf w (suc p) ws))
+      go true t ih =
+          let fits = leb-true l b t in
+          let e : b ≡ l + (b - l) = omega arith in
+          let f : at + b ≡ at + l + (b - l) = omega arith in
+          let split : take b (planeCode n bs ++ more) ≡ planeCode n bs ++ take (b - l) more =
+          ap (λ (m : ℕ). take m (planeCode n bs ++ more)) e ∙ take-append-add (planeCode n bs) more (b - l) in
+          let rest = take (b - l) more in
+          rw (split, plane-back (length ws) n bs rest wide h, next-back (length ws) n bs rest wide h, f, le-leb (at + l) (at + l + (b - l)) (omega arith))
+          (ap suc (ih (at + l) (b - l)))
+      go false t ih =
+          let short = leb-false l b t in
+          let split : take b (planeCode n bs ++ more) ≡ take b (planeCode n bs) = take-append-le b (planeCode n bs) more (omega arith) in
+          rw (split, plane-cut (length ws) n bs wide h b short, lt-leb (at + l) (at + b) (omega arith), past (at + b) (at + l) (planeNext n bs) (planesOf (w - 1) p ws) (omega arith))
+
+module _ (w p budget : ℕ) (ws : List ℕ) where
+  pub planes-most : planesWithin w p budget ws ≤ p
+  unfolding planesWithin
+  planes-most = rw planesOf-length at (within-most budget 0 0 (planesOf w p ws))
+
+  -- a code that the budget cuts
+  pub read-cut : wholePlanes (length ws) p (take budget (planesCode w p ws)) ≡ planesWithin w p budget ws
+  unfolding planesCode wholePlanes planesWithin
+  read-cut = let e : 0 + budget ≡ budget = omega arith in rw e at (cut-whole ws w p 0 0 budget (omega arith))
+
+  -- a budget for the whole code
+  pub all-within : length (planesCode w p ws) ≤ budget → planesWithin w p budget ws ≡ p
+  all-within h =
+      sym read-cut ∙ ap (wholePlanes (length ws) p) (take-all budget (planesCode w p ws) h ∙ sym (append-nil (planesCode w p ws))) ∙ whole-back w p ws [] .0
+
+  -- and padded up to it
+  pub read-padded : wholePlanes (length ws) p (take budget (planesCode w p ws) ++ replicate (budget - length (take budget (planesCode w p ws))) false)
+      ≡ planesWithin w p budget ws
+  read-padded = go (leb (length code) budget) refl
+    where
+      code : List Bool
+      code = planesCode w p ws
+
+      go : (a : Bool) → leb (length code) budget ≡ a
+          → wholePlanes (length ws) p (take budget code ++ replicate (budget - length (take budget code)) false) ≡ planesWithin w p budget ws
+      go true t =
+          let fits = leb-true (length code) budget t in
+          rw (take-all budget code fits, all-within fits) (whole-back w p ws (replicate (budget - length code) false) .0)
+      go false t =
+          let none : budget - length (take budget code) ≡ 0 = omega (arith, leb-false (length code) budget t, length-take-le budget code (omega (arith, leb-false (length code) budget t))) in
+          rw (none, append-nil (take budget code)) read-cut
+
+-- a reader never counts more
+whole-most : (N p n : ℕ) (s : List Bool) → wholeFrom N p n s ≤ p
+whole-most N zero n s = omega arith
+whole-most N (suc p) n s = go (readPlane N n s .whole) (whole-most N p (readNext N n s) (readPlane N n s .rest))
+  where
+    go : (a : Bool) {m : ℕ} → m ≤ p → cond a (suc m) 0 ≤ suc p
+    go true h = omega arith
+    go false h = omega arith
+
+pub planes-read : (N p : ℕ) (s : List Bool) → wholePlanes N p s ≤ p
+unfolding wholePlanes
+planes-read N p s = whole-most N p 0 s
