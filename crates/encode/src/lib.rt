@@ -1,4 +1,5 @@
-// The code of a block, written below a limit; the cursor moves by the uncut length.
+// The code of a block, written below a limit; the cursor moves by the uncut length. The planes that are whole are counted against the budget, which is
+// the width less the head, and not against the room below the limit.
 ghost use mathlib.Core.Path.{_≡_};
 ghost use mathlib.Core.Bool.{true, false};
 ghost use Prim.Native.Nat.{_*_, _^_, _≤_, _<_};
@@ -8,7 +9,8 @@ ghost use Rattle.bits.specs.Calls.{Written};
 ghost use Rattle.words.specs.Calls.{Size};
 ghost use Rattle.floats.specs.Calls.{formatOf};
 ghost use Rattle.float_blocks.specs.Block.{anySpecial};
-ghost use Rattle.codec.specs.Head.{exactPlanes};
+ghost use Rattle.codec.specs.Head.{planesNeeded, exactPlanes};
+ghost use Rattle.codec.specs.Depth.{wholeOf, wholeIntegers, wholeWritten};
 ghost use Rattle.codec.specs.Calls.{Shape, coefficientsCode, integersCode, uncutCode, Formed};
 use bits::Cursor;
 use codec::change::Change;
@@ -22,11 +24,14 @@ use plane_writer::Coded;
 fn put_exact_planes(size: u32, us: &[u64], buf: &mut [u8], out: Cursor, limit: usize) -> Coded
     requires { ⌜ Size size × (length (now us) ≤ 256) × (limit ≤ 8 * length (now buf)) × (out .at < 2 ^ 30) ⌝ }
     ensures { λ r. ⌜ Written (bitsOf (now (buf .entry))) (bitsOf (now (buf .exit))) out limit
-        (exactPlanes (formatOf size) (now (us .entry))) (r .out) ⌝ }
+        (exactPlanes (formatOf size) (now (us .entry))) (r .out) × (r .whole ≡ planesNeeded size (now (us .entry))) ⌝ }
 {
     let p = planes_needed(size, us);
     let next = bits::put_number(buf, out, limit, p - 1, count_bits(size));
-    plane_writer::put_planes(size, us, p, buf, next, limit)
+    let c = plane_writer::put_planes(size, us, p, buf, next, limit, 0);
+    let end = c.out;
+    // Nothing is cut, so all p planes are whole, whatever the coder counts within a budget.
+    Coded { out: end, whole: p }
 }
 
 // Coefficients, by mode.
@@ -38,15 +43,17 @@ fn put_coefficients(
     buf: &mut [u8],
     out: Cursor,
     limit: usize,
+    budget: usize,
 ) -> Coded
     requires { ⌜ Size size × (p ≤ size) × (length (now us) ≤ 256) × (limit ≤ 8 * length (now buf)) × (out .at < 2 ^ 30) ⌝ }
     ensures { λ r. ⌜ Written (bitsOf (now (buf .entry))) (bitsOf (now (buf .exit))) out limit
-        (coefficientsCode (formatOf size) exact p (now (us .entry))) (r .out) ⌝ }
+        (coefficientsCode (formatOf size) exact p (now (us .entry))) (r .out)
+        × (r .whole ≡ wholeOf (formatOf size) exact p budget (now (us .entry))) ⌝ }
 {
     if exact {
         put_exact_planes(size, us, buf, out, limit)
     } else {
-        plane_writer::put_planes(size, us, p, buf, out, limit)
+        plane_writer::put_planes(size, us, p, buf, out, limit, budget)
     }
 }
 
@@ -61,13 +68,15 @@ fn put_integers(
     buf: &mut [u8],
     out: Cursor,
     limit: usize,
+    budget: usize,
 ) -> Coded
     requires { ⌜ Shape size d p (length (now words)) × (length (now cs) ≡ 4 ^ d) × (limit ≤ 8 * length (now buf)) × (out .at < 2 ^ 30) ⌝ }
     ensures { λ r. ⌜ Written (bitsOf (now (buf .entry))) (bitsOf (now (buf .exit))) out limit
-        (integersCode (formatOf size) exact d p (now (words .entry))) (r .out) ⌝ }
+        (integersCode (formatOf size) exact d p (now (words .entry))) (r .out)
+        × (r .whole ≡ wholeIntegers (formatOf size) exact d p budget (now (words .entry))) ⌝ }
 {
     blocks::coefficients(size, exact, d, words, cs);
-    put_coefficients(size, exact, p, cs, buf, out, limit)
+    put_coefficients(size, exact, p, cs, buf, out, limit, budget)
 }
 
 // What stands in front of a block's planes, as a number of so many bits, and whether planes follow.
@@ -149,8 +158,8 @@ fn form_of(size: u32, float: bool, exact: bool, words: &mut [u64]) -> Form
     }
 }
 
-// The code of a block of 4^d words, by kind and mode, with p planes if it is lossy; the words are used up. A lossy block of floats has no exponent field
-// of 255.
+// The code of a block of 4^d words, by kind and mode, with p planes if it is lossy, for a slot of so many bits; the words are used up. A lossy block of
+// floats has no exponent field of 255.
 pub fn put_block(
     size: u32,
     float: bool,
@@ -162,18 +171,24 @@ pub fn put_block(
     buf: &mut [u8],
     out: Cursor,
     limit: usize,
+    width: usize,
 ) -> Coded
     requires { ⌜ Shape size d p (length (now words)) × (length (now cs) ≡ 4 ^ d)
         × (float ≡ true → exact ≡ false → anySpecial (formatOf size) (now words) ≡ false)
-        × (limit ≤ 8 * length (now buf)) × (out .at < 2 ^ 28) ⌝ }
+        × (limit ≤ 8 * length (now buf)) × (out .at < 2 ^ 28) × (13 ≤ width) ⌝ }
     ensures { λ r. ⌜ Written (bitsOf (now (buf .entry))) (bitsOf (now (buf .exit))) out limit
-        (uncutCode (formatOf size) float exact d p (now (words .entry))) (r .out) ⌝ }
+        (uncutCode (formatOf size) float exact d p (now (words .entry))) (r .out)
+        × (r .whole ≡ wholeWritten (formatOf size) float exact d p width (now (words .entry))) ⌝ }
 {
     let f = form_of(size, float, exact, words);
     let next = bits::put_number(buf, out, limit, f.head, f.bits);
     if f.planes {
-        put_integers(size, exact, d, p, words, cs, buf, next, limit)
+        let budget = width - f.bits;
+        put_integers(size, exact, d, p, words, cs, buf, next, limit, budget)
     } else {
-        Coded { out: next }
+        Coded {
+            out: next,
+            whole: 0,
+        }
     }
 }

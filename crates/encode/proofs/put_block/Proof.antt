@@ -12,9 +12,12 @@ form-of-requires c κs = search needs
 put-number-requires : tie.Need-put-number-requires
 put-number-requires c κs = (search needs, omega (arith, c .before .before .before .form-of .ensures .short))
 
+sub-budget : tie.Need-sub-budget
+sub-budget c = omega (arith, c .before .before .before .before .before .before .before .before .form-of .ensures .short)
+
 put-integers-requires : tie.Need-put-integers-requires
 put-integers-requires c κs =
-    let number = c .before .before .before .before .before .before in
+    let number = c .before .before .before .before .before .before .before in
     let made = number .before .before .before .before in
     let bits = length-numberBits (made .form-of .result .bits) (made .form-of .result .head) in
     (search needs, search needs, search needs, omega (arith, number .put-number .ensures .moved, bits, made .form-of .ensures .short))
@@ -31,11 +34,11 @@ same-length-3 c = search needs
 returns : tie.Need-returns
 returns c =
     let put = c .before .before .before .before .before .before in
-    let branch = put .before .before .before .before in
+    let branch = put .before .before .before .before .before in
     let number = branch .before .before .before in
     let made = number .before .before .before .before in
     let a = made .before .before .before .before .before .args in
-    with-planes (a .d) (a .p) (made .form-of .ensures) (branch .if1 .taken) (number .put-number .ensures) (put .put-integers .ensures)
+    with-planes (a .d) (a .p) (a .width) (made .form-of .ensures) (branch .if1 .taken) (number .put-number .ensures) (put .put-integers .ensures)
 
 same-length-4 : tie.Need-same-length-4
 same-length-4 c = search needs
@@ -48,7 +51,7 @@ returns-2 c =
     let number = c .before .before .before in
     let made = number .before .before .before .before in
     let a = made .before .before .before .before .before .args in
-    without-planes (a .d) (a .p) (made .form-of .ensures) (c .if1 .left) (number .put-number .ensures)
+    without-planes (a .d) (a .p) (a .width) (made .form-of .ensures) (c .if1 .left) (number .put-number .ensures)
 
 pub put-block-spec : {M : Type 1} → statement M
 put-block-spec =
@@ -56,6 +59,7 @@ put-block-spec =
     (tie.spec
     form-of-requires
     put-number-requires
+    sub-budget
     put-integers-requires
     same-length
     same-length-2

@@ -14,7 +14,9 @@ same-length : tie.Need-same-length
 same-length c = search needs
 
 returns : tie.Need-returns
-returns c = rw (c .before .before .before .before .if1 .taken) (c .before .before .put-exact-planes .ensures)
+returns c =
+    let s = c .before .before .before .before .before .before .before in
+    rw (c .before .before .before .before .if1 .taken, sized (s .args .size) (s .pre .0) .size) (c .before .before .put-exact-planes .ensures)
 
 same-length-2 : tie.Need-same-length-2
 same-length-2 c = search needs

@@ -40,12 +40,15 @@ same-length c = search needs
 returns : tie.Need-returns
 unfolding exactPlanes
 returns c =
-    let number = c .before .before .before .before .before .before in
+    let planes = c .before .before .before in
+    let number = planes .before .before .before .before in
     let k = number .before in
     let needed = k .before .before in
-    let s = needed .before .before .before in
-    rw (sized (s .args .size) (s .pre .0) .size, ← (needed .planes-needed .ensures), ← (k .count-bits .ensures .0))
-    (written-append (number .put-number .ensures) (c .before .before .put-planes .ensures))
+    let s = needed .before .before .before in (
+      rw (sized (s .args .size) (s .pre .0) .size, ← (needed .planes-needed .ensures), ← (k .count-bits .ensures .0))
+          (written-append (number .put-number .ensures) (planes .put-planes .ensures .0)),
+      needed .planes-needed .ensures,
+    )
 
 pub put-exact-planes-spec : {M : Type 1} → statement M
 put-exact-planes-spec =

@@ -32,7 +32,9 @@ returns c =
     let m = put .before .before .before .before .before .before .before in
     let s = m .before .before .before .before .before .before in
     let a = s .args in
-    rw (integers-of (a .size) (a .exact) (a .d) (a .p) (a .words .now) _ (s .pre .0 .sized) (m .coefficients .ensures)) (put .put-coefficients .ensures)
+    let r = put .put-coefficients .ensures in
+    let same = integers-of (a .size) (a .exact) (a .d) (a .words .now) _ (s .pre .0 .sized) (m .coefficients .ensures) in
+    (rw (same .0 (a .p)) (r .0), rw (same .1 (a .p) (a .budget)) (r .1))
 
 pub put-integers-spec : {M : Type 1} → statement M
 put-integers-spec =
