@@ -1,18 +1,19 @@
 -- A block of float patterns read, by the first bits of its slot, as the reader goes through them.
-use mathlib.Core.Path.{_≡_, _∙_}
+use mathlib.Core.Path.{_≡_, refl, _∙_}
 use mathlib.Core.Bool.{Bool, true, false}
 use mathlib.Core.List.{List, _∷_, map}
 use Prim.Native.Nat.{ℕ, _+_, _^_, _≤_, _<_}
 use native.Mathlib.Omega.{arith}
 use lib.Ieee.{Format}
-use lib.ListN.{length, getD, replicate}
+use lib.ListN.{length, getD, drop, replicate}
 use lib.Seq.{slice}
 use Rattle.bits.specs.Calls.{noOnes}
 use Rattle.words.specs.Word.{flip}
 use Rattle.plane_reader.proofs.Reading.{slice-here}
-use Rattle.floats.specs.Pattern.{wordSize}
+use Rattle.floats.specs.Pattern.{wordSize, fieldBits}
 use Rattle.codec.specs.Calls.Padded.{paddedMultiples, paddedFlipped, paddedFloats}
 use Rattle.codec.specs.Read.{readIntegers, scaledBy, readExactFloats, readLossyFloats, readCode}
+use Rattle.codec.specs.Depth.{wholeCoefficients, wholeLossyFloats, wholeExactFloats}
 
 -- a block of integers, by mode
 pub integers-read : {ws : List ℕ} (f : Format) (exact : Bool) (d p : ℕ) (s : List Bool) → ws ≡ readIntegers f exact d p s → ws ≡ readCode f false exact d p s
@@ -25,18 +26,29 @@ module _ (f : Format) (dim p : ℕ) (d : List Bool) (at end : ℕ) (b : Bool) (f
   one : at < end → slice at end d ≡ b ∷ slice (at + 1) end d
   one h = rw first (slice-here d at end h fits)
 
-  pub lossy-zero : at < end → b ≡ false → readLossyFloats f dim p (slice at end d) ≡ replicate (4 ^ dim) 0
-  unfolding readLossyFloats
-  lossy-zero h e = rw (one h, e)
+  -- what is left after the first bit, and how many planes of it are whole
+  abbrev later : ℕ → List Bool
+  later n = slice (at + n) end d
 
-  pub lossy-some : at < end → b ≡ true → readLossyFloats f dim p (slice at end d) ≡ scaledBy f (readIntegers f false dim p) (slice (at + 1) end d)
-  unfolding readLossyFloats
-  lossy-some h e = rw (one h, e)
+  pub lossy-zero : {ws : List ℕ} → at < end → b ≡ false → ws ≡ replicate (4 ^ dim) 0
+      → (ws ≡ readLossyFloats f dim p (slice at end d)) × (0 ≡ wholeLossyFloats f dim p (slice at end d))
+  unfolding readLossyFloats wholeLossyFloats
+  lossy-zero h e w = rw (one h, e) (w, refl)
 
-  pub exact-zero : {ws : List ℕ} {r : Bool} → at < end → b ≡ false → ws ≡ replicate (4 ^ dim) 0 → r ≡ noOnes (slice (at + 1) end d)
-      → (ws ≡ readExactFloats f dim p (slice at end d)) × (r ≡ paddedFloats f dim p (slice at end d))
-  unfolding readExactFloats paddedFloats
-  exact-zero h e w q = rw (one h, e) (w, q)
+  pub lossy-some : {ws : List ℕ} {n : ℕ} → at < end → b ≡ true → ws ≡ scaledBy f (readIntegers f false dim p) (later 1)
+      → n ≡ wholeCoefficients f false (4 ^ dim) p (drop (fieldBits f) (later 1))
+      → (ws ≡ readLossyFloats f dim p (slice at end d)) × (n ≡ wholeLossyFloats f dim p (slice at end d))
+  unfolding readLossyFloats wholeLossyFloats
+  lossy-some h e w k = rw (one h, e) (w, k)
+
+  -- what reading float patterns in exact mode gives
+  abbrev ExactRead : List ℕ → Bool → ℕ → Type 0
+  ExactRead ws r n =
+      (ws ≡ readExactFloats f dim p (slice at end d)) × (r ≡ paddedFloats f dim p (slice at end d)) × (n ≡ wholeExactFloats f dim p (slice at end d))
+
+  pub exact-zero : {ws : List ℕ} {r : Bool} → at < end → b ≡ false → ws ≡ replicate (4 ^ dim) 0 → r ≡ noOnes (later 1) → ExactRead ws r 0
+  unfolding readExactFloats paddedFloats wholeExactFloats
+  exact-zero h e w q = rw (one h, e) (w, q, refl)
 
   -- and the second bit c
   module _ (c : Bool) (second : c ≡ getD d (at + 1) false) (h : at + 1 < end) (e : b ≡ true) where
@@ -45,14 +57,14 @@ module _ (f : Format) (dim p : ℕ) (d : List Bool) (at end : ℕ) (b : Bool) (f
         let n : at + 1 + 1 ≡ at + 2 = omega arith in
         one (omega arith) ∙ rw (e, second, slice-here d (at + 1) end h fits, n)
 
-    pub exact-whole : {ws : List ℕ} {r : Bool} → c ≡ false
-        → ws ≡ scaledBy f (readIntegers f true dim p) (slice (at + 2) end d) → r ≡ paddedMultiples f dim p (slice (at + 2) end d)
-        → (ws ≡ readExactFloats f dim p (slice at end d)) × (r ≡ paddedFloats f dim p (slice at end d))
-    unfolding readExactFloats paddedFloats
-    exact-whole k w q = rw (two, k) (w, q)
+    pub exact-whole : {ws : List ℕ} {r : Bool} {n : ℕ} → c ≡ false
+        → ws ≡ scaledBy f (readIntegers f true dim p) (later 2) → r ≡ paddedMultiples f dim p (later 2)
+        → n ≡ wholeCoefficients f true (4 ^ dim) p (drop (fieldBits f) (later 2)) → ExactRead ws r n
+    unfolding readExactFloats paddedFloats wholeExactFloats
+    exact-whole k w q m = rw (two, k) (w, q, m)
 
-    pub exact-raw : {ws : List ℕ} {r : Bool} → c ≡ true
-        → ws ≡ map (flip (wordSize f)) (readIntegers f true dim p (slice (at + 2) end d)) → r ≡ paddedFlipped f dim p (slice (at + 2) end d)
-        → (ws ≡ readExactFloats f dim p (slice at end d)) × (r ≡ paddedFloats f dim p (slice at end d))
-    unfolding readExactFloats paddedFloats
-    exact-raw k w q = rw (two, k) (w, q)
+    pub exact-raw : {ws : List ℕ} {r : Bool} {n : ℕ} → c ≡ true
+        → ws ≡ map (flip (wordSize f)) (readIntegers f true dim p (later 2)) → r ≡ paddedFlipped f dim p (later 2)
+        → n ≡ wholeCoefficients f true (4 ^ dim) p (later 2) → ExactRead ws r n
+    unfolding readExactFloats paddedFloats wholeExactFloats
+    exact-raw k w q m = rw (two, k) (w, q, m)

@@ -20,19 +20,21 @@ use Rattle.rounding.specs.Rounded.{toPattern}
 use Rattle.float_blocks.specs.Block.{blockExponent, allZero, allWhole}
 use Rattle.codec.specs.Head.{countBits}
 use Rattle.codec.specs.Read.{readCoefficients, readIntegers, scaledBy}
+use Rattle.codec.specs.Depth.{wholeCoefficients}
 use Rattle.codec.specs.Calls.Padded.{smallest, paddedPlanes, multiples, others, paddedMultiples, paddedFlipped}
 
 -- coefficients as the code reads them: the count, the planes, and what follows
 pub coefficients-read : {us : List ℕ} {r : Bool} (f : Format) (w N p head : ℕ) (d : List Bool) (at end next whole count : ℕ)
     → wordSize f ≡ w → at + head ≤ end → head ≡ countBits f → count ≡ numberOf (slice at (at + head) d) + 1
     → PlanesRead w us N count d (at + head) end next whole → r ≡ (eqb whole count && (smallest w count us && noOnes (slice next end d)))
-    → (us ≡ readCoefficients f true N p (slice at end d)) × (r ≡ paddedPlanes f N (slice at end d))
+    → (us ≡ readCoefficients f true N p (slice at end d)) × (r ≡ paddedPlanes f N (slice at end d)) × (whole ≡ wholeCoefficients f true N p (slice at end d))
 unfolding paddedPlanes
 coefficients-read {us} {r} f w N p head d at end next whole count size h k c read e =
     let s = slice at end d in
     let n : count ≡ suc (numberOf (take head s)) = c ∙ add-one _ ∙ ap (λ (l : List Bool). suc (numberOf l)) (slice-first d at head end h) in
     let words : us ≡ readWords w N (suc (numberOf (take head s))) (drop head s) = rw (← n, ← (slice-rest d at head end)) (read .words) in
-    rw (size, ← k) (words, e ∙ rw (read .whole, read .left, words, n, slice-rest d at head end))
+    rw (size, ← k)
+    (words, e ∙ rw (read .whole, read .left, words, n, slice-rest d at head end), rw (← n, ← (slice-rest d at head end)) (read .whole))
 
 -- flips, after the bits 1 1
 pub flipped-read : {ws : List ℕ} {q v : Bool} (f : Format) (d p : ℕ) (s : List Bool) → ws ≡ map (flip (wordSize f)) (readIntegers f true d p s)
@@ -54,6 +56,10 @@ module _ (f : Format) (d p : ℕ) (bs : List Bool) (at end head e : ℕ) (k : he
 
     rest : slice (at + head) end bs ≡ drop (fieldBits f) slot
     rest = slice-rest bs at head end ∙ ap (λ (m : ℕ). drop m slot) k
+
+    pub whole-read : {whole : ℕ} (exact : Bool) (N : ℕ) → whole ≡ wholeCoefficients f exact N p (slice (at + head) end bs)
+        → whole ≡ wholeCoefficients f exact N p (drop (fieldBits f) slot)
+    whole-read exact N w = rw (← rest) w
 
     pub scaled-read : {ints ws : List ℕ} (exact : Bool) → ints ≡ readIntegers f exact d p (slice (at + head) end bs) → ws ≡ map (toPattern f e) ints
         → ws ≡ scaledBy f (readIntegers f exact d p) slot

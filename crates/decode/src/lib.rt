@@ -1,10 +1,10 @@
-// A block, read from the bits of its slot, whatever they are. In exact mode a reader also tells whether the bits are the padded code of what it reads;
-// a lossy slot may hold any bits.
+// A block, read from the bits of its slot, whatever they are, and how many of its planes were whole. In exact mode a reader also tells whether the bits are
+// the padded code of what it reads; a lossy slot may hold any bits.
 ghost use mathlib.Core.Path.{_≡_};
 ghost use mathlib.Core.Bool.{true, false, not, _||_};
 ghost use mathlib.Core.List.{map};
 ghost use Prim.Native.Nat.{_+_, _^_, _≤_};
-ghost use lib.ListN.{length};
+ghost use lib.ListN.{length, drop};
 ghost use lib.Seq.{slice};
 ghost use Rattle.bits.specs.Stream.{bitsOf};
 ghost use Rattle.words.specs.Word.{flip};
@@ -14,6 +14,7 @@ ghost use Rattle.floats.specs.Calls.{formatOf};
 ghost use Rattle.codec.specs.Calls.{Shape, Range};
 ghost use Rattle.codec.specs.Head.{countBits};
 ghost use Rattle.codec.specs.Read.{readCoefficients, readIntegers, scaledBy, readExactFloats, readLossyFloats, readCode};
+ghost use Rattle.codec.specs.Depth.{wholeCoefficients, wholeLossyFloats, wholeExactFloats, wholeRead};
 ghost use Rattle.codec.specs.Calls.Padded.{paddedPlanes, paddedMultiples, paddedFlipped, paddedFloats, paddedBlock};
 use codec::change::Change;
 use codec::change::change_all;
@@ -21,6 +22,12 @@ use codec::change::copy;
 use codec::head::count_bits;
 use codec::head::field_bits;
 use plane_reader::clear;
+
+// What the reading of a block tells beside its words: whether a reader takes these bits, and how many planes were whole.
+pub struct BlockRead {
+    pub padded: bool,
+    pub whole: u32,
+}
 
 // Coefficients, by mode: p planes, or as many as the head says.
 fn read_coefficients(
@@ -31,19 +38,26 @@ fn read_coefficients(
     at: usize,
     end: usize,
     us: &mut [u64],
-) -> bool
+) -> BlockRead
     requires { ⌜ Size size × (p ≤ size) × Range at (countBits (formatOf size)) end (length (now buf)) ⌝ }
     ensures { λ r. ⌜ (now (us .exit) ≡ readCoefficients (formatOf size) exact (length (now (us .entry))) p (slice at end (bitsOf (now (buf .entry)))))
-        × (r ≡ (not exact || paddedPlanes (formatOf size) (length (now (us .entry))) (slice at end (bitsOf (now (buf .entry)))))) ⌝ }
+        × (r .padded ≡ (not exact || paddedPlanes (formatOf size) (length (now (us .entry))) (slice at end (bitsOf (now (buf .entry))))))
+        × (r .whole ≡ wholeCoefficients (formatOf size) exact (length (now (us .entry))) p (slice at end (bitsOf (now (buf .entry))))) ⌝ }
 {
     if exact {
         let head = count_bits(size);
         let count = bits::get_number(buf, at, head) + 1;
         let read = plane_reader::read_planes(size, buf, at + head, end, us, count);
-        verify::ends(size, count, us, buf, read, end)
+        BlockRead {
+            padded: verify::ends(size, count, us, buf, read, end),
+            whole: read.whole,
+        }
     } else {
-        plane_reader::read_planes(size, buf, at, end, us, p);
-        true
+        let read = plane_reader::read_planes(size, buf, at, end, us, p);
+        BlockRead {
+            padded: true,
+            whole: read.whole,
+        }
     }
 }
 
@@ -58,14 +72,15 @@ fn read_integers(
     end: usize,
     cs: &mut [u64],
     words: &mut [u64],
-) -> bool
+) -> BlockRead
     requires { ⌜ Shape size d p (length (now words)) × (length (now cs) ≡ 4 ^ d) × Range at (countBits (formatOf size)) end (length (now buf)) ⌝ }
     ensures { λ r. ⌜ (now (words .exit) ≡ readIntegers (formatOf size) exact d p (slice at end (bitsOf (now (buf .entry)))))
-        × (r ≡ (not exact || paddedPlanes (formatOf size) (4 ^ d) (slice at end (bitsOf (now (buf .entry)))))) ⌝ }
+        × (r .padded ≡ (not exact || paddedPlanes (formatOf size) (4 ^ d) (slice at end (bitsOf (now (buf .entry))))))
+        × (r .whole ≡ wholeCoefficients (formatOf size) exact (4 ^ d) p (slice at end (bitsOf (now (buf .entry))))) ⌝ }
 {
-    let padded = read_coefficients(size, exact, p, buf, at, end, cs);
+    let read = read_coefficients(size, exact, p, buf, at, end, cs);
     blocks::values(size, exact, d, cs, words);
-    padded
+    read
 }
 
 // e, then integers, which are kept in the other words, and whose patterns at e are the words; whether the bits are so coded.
@@ -78,18 +93,22 @@ fn read_multiples(
     end: usize,
     ints: &mut [u64],
     words: &mut [u64],
-) -> bool
+) -> BlockRead
     requires { ⌜ Shape size d p (length (now words)) × (length (now ints) ≡ 4 ^ d)
         × Range at (fieldBits (formatOf size) + countBits (formatOf size)) end (length (now buf)) ⌝ }
     ensures { λ r. ⌜ (now (words .exit) ≡ scaledBy (formatOf size) (readIntegers (formatOf size) true d p) (slice at end (bitsOf (now (buf .entry)))))
-        × (r ≡ paddedMultiples (formatOf size) d p (slice at end (bitsOf (now (buf .entry))))) ⌝ }
+        × (r .padded ≡ paddedMultiples (formatOf size) d p (slice at end (bitsOf (now (buf .entry)))))
+        × (r .whole ≡ wholeCoefficients (formatOf size) true (4 ^ d) p (drop (fieldBits (formatOf size)) (slice at end (bitsOf (now (buf .entry)))))) ⌝ }
 {
     let head = field_bits(size);
     let e = bits::get_number(buf, at, head);
-    let padded = read_integers(size, true, d, p, buf, at + head, end, ints, words);
+    let read = read_integers(size, true, d, p, buf, at + head, end, ints, words);
     copy(words, ints);
     change_all(size, Change::ToPattern(e), words);
-    verify::multiples(size, e, ints, words) & padded
+    BlockRead {
+        padded: verify::multiples(size, e, ints, words) & read.padded,
+        whole: read.whole,
+    }
 }
 
 // Integers, which become their flips; whether the bits are so coded.
@@ -102,15 +121,19 @@ fn read_flipped(
     end: usize,
     cs: &mut [u64],
     words: &mut [u64],
-) -> bool
+) -> BlockRead
     requires { ⌜ Shape size d p (length (now words)) × (length (now cs) ≡ 4 ^ d) × Range at (countBits (formatOf size)) end (length (now buf)) ⌝ }
     ensures { λ r. ⌜ (now (words .exit) ≡ map (flip (wordSize (formatOf size)))
         (readIntegers (formatOf size) true d p (slice at end (bitsOf (now (buf .entry))))))
-        × (r ≡ paddedFlipped (formatOf size) d p (slice at end (bitsOf (now (buf .entry))))) ⌝ }
+        × (r .padded ≡ paddedFlipped (formatOf size) d p (slice at end (bitsOf (now (buf .entry)))))
+        × (r .whole ≡ wholeCoefficients (formatOf size) true (4 ^ d) p (slice at end (bitsOf (now (buf .entry))))) ⌝ }
 {
-    let padded = read_integers(size, true, d, p, buf, at, end, cs, words);
+    let read = read_integers(size, true, d, p, buf, at, end, cs, words);
     change_all(size, Change::Flip, words);
-    verify::others(size, words) & padded
+    BlockRead {
+        padded: verify::others(size, words) & read.padded,
+        whole: read.whole,
+    }
 }
 
 // A block of float patterns in exact mode, by its first bits.
@@ -123,15 +146,19 @@ fn read_exact_floats(
     end: usize,
     cs: &mut [u64],
     words: &mut [u64],
-) -> bool
+) -> BlockRead
     requires { ⌜ Shape size d p (length (now words)) × (length (now cs) ≡ 4 ^ d)
         × Range at (2 + fieldBits (formatOf size) + countBits (formatOf size)) end (length (now buf)) ⌝ }
     ensures { λ r. ⌜ (now (words .exit) ≡ readExactFloats (formatOf size) d p (slice at end (bitsOf (now (buf .entry)))))
-        × (r ≡ paddedFloats (formatOf size) d p (slice at end (bitsOf (now (buf .entry))))) ⌝ }
+        × (r .padded ≡ paddedFloats (formatOf size) d p (slice at end (bitsOf (now (buf .entry)))))
+        × (r .whole ≡ wholeExactFloats (formatOf size) d p (slice at end (bitsOf (now (buf .entry))))) ⌝ }
 {
     if !bits::get(buf, at) {
         clear(words);
-        return bits::no_ones(buf, at + 1, end);
+        return BlockRead {
+            padded: bits::no_ones(buf, at + 1, end),
+            whole: 0,
+        };
     }
     if bits::get(buf, at + 1) {
         read_flipped(size, d, p, buf, at + 2, end, cs, words)
@@ -140,7 +167,7 @@ fn read_exact_floats(
     }
 }
 
-// A block of float patterns in lossy mode, by its first bit; then e, and integers, which become patterns at e.
+// A block of float patterns in lossy mode, by its first bit; then e, and integers, which become patterns at e. How many planes were whole.
 fn read_lossy_floats(
     size: u32,
     d: u32,
@@ -150,19 +177,21 @@ fn read_lossy_floats(
     end: usize,
     cs: &mut [u64],
     words: &mut [u64],
-)
+) -> u32
     requires { ⌜ Shape size d p (length (now words)) × (length (now cs) ≡ 4 ^ d)
         × Range at (1 + fieldBits (formatOf size) + countBits (formatOf size)) end (length (now buf)) ⌝ }
-    ensures { λ _. ⌜ now (words .exit) ≡ readLossyFloats (formatOf size) d p (slice at end (bitsOf (now (buf .entry)))) ⌝ }
+    ensures { λ r. ⌜ (now (words .exit) ≡ readLossyFloats (formatOf size) d p (slice at end (bitsOf (now (buf .entry)))))
+        × (r ≡ wholeLossyFloats (formatOf size) d p (slice at end (bitsOf (now (buf .entry))))) ⌝ }
 {
     if bits::get(buf, at) {
-        read_scaled(size, d, p, buf, at + 1, end, cs, words);
+        read_scaled(size, d, p, buf, at + 1, end, cs, words)
     } else {
         clear(words);
+        0
     }
 }
 
-// e, then integers, which become patterns at e: a lossy block after its first bit.
+// e, then integers, which become patterns at e: a lossy block after its first bit. How many planes were whole.
 fn read_scaled(
     size: u32,
     d: u32,
@@ -172,15 +201,17 @@ fn read_scaled(
     end: usize,
     cs: &mut [u64],
     words: &mut [u64],
-)
+) -> u32
     requires { ⌜ Shape size d p (length (now words)) × (length (now cs) ≡ 4 ^ d)
         × Range at (fieldBits (formatOf size) + countBits (formatOf size)) end (length (now buf)) ⌝ }
-    ensures { λ _. ⌜ now (words .exit) ≡ scaledBy (formatOf size) (readIntegers (formatOf size) false d p) (slice at end (bitsOf (now (buf .entry)))) ⌝ }
+    ensures { λ r. ⌜ (now (words .exit) ≡ scaledBy (formatOf size) (readIntegers (formatOf size) false d p) (slice at end (bitsOf (now (buf .entry)))))
+        × (r ≡ wholeCoefficients (formatOf size) false (4 ^ d) p (drop (fieldBits (formatOf size)) (slice at end (bitsOf (now (buf .entry)))))) ⌝ }
 {
     let head = field_bits(size);
     let e = bits::get_number(buf, at, head);
-    read_integers(size, false, d, p, buf, at + head, end, cs, words);
+    let read = read_integers(size, false, d, p, buf, at + head, end, cs, words);
     change_all(size, Change::ToPattern(e), words);
+    read.whole
 }
 
 // The words of a block of dimension d, by kind and mode, from the bits of its slot: p planes if it is lossy. Its coefficients stand in other words.
@@ -195,11 +226,12 @@ pub fn read_block(
     end: usize,
     cs: &mut [u64],
     words: &mut [u64],
-) -> bool
+) -> BlockRead
     requires { ⌜ Shape size d p (length (now words)) × (length (now cs) ≡ 4 ^ d)
         × Range at (2 + fieldBits (formatOf size) + countBits (formatOf size)) end (length (now buf)) ⌝ }
     ensures { λ r. ⌜ (now (words .exit) ≡ readCode (formatOf size) float exact d p (slice at end (bitsOf (now (buf .entry)))))
-        × (r ≡ (not exact || paddedBlock (formatOf size) float d p (slice at end (bitsOf (now (buf .entry)))))) ⌝ }
+        × (r .padded ≡ (not exact || paddedBlock (formatOf size) float d p (slice at end (bitsOf (now (buf .entry))))))
+        × (r .whole ≡ wholeRead (formatOf size) float exact d p (slice at end (bitsOf (now (buf .entry))))) ⌝ }
 {
     if !float {
         return read_integers(size, exact, d, p, buf, at, end, cs, words);
@@ -207,7 +239,9 @@ pub fn read_block(
     if exact {
         read_exact_floats(size, d, p, buf, at, end, cs, words)
     } else {
-        read_lossy_floats(size, d, p, buf, at, end, cs, words);
-        true
+        BlockRead {
+            padded: true,
+            whole: read_lossy_floats(size, d, p, buf, at, end, cs, words),
+        }
     }
 }

@@ -60,7 +60,7 @@ returns c =
     let r = coefficients-read (formatOf (a .size)) (a .size) (length (a .us .now)) (a .p) (k .count-bits .result) (bitsOf (a .buf .now))
     (a .at) (a .end) _ _ _ (sized (a .size) (s .pre .0) .size) (omega (arith, head)) head
     (ap (λ (n : ℕ). n + 1) (get .get-number .ensures)) (read .read-planes .ensures) (c .ends .ensures) in
-    rw (k .before .if1 .taken) (r .0, r .1)
+    rw (k .before .if1 .taken) r
 
 same-length-2 : tie.Need-same-length-2
 same-length-2 c = search needs
@@ -69,7 +69,8 @@ returns-2 : tie.Need-returns-2
 returns-2 c =
     let branch = c .before .before .before .before in
     let s = branch .before .before .before in
-    rw (branch .if1 .left, sized (s .args .size) (s .pre .0) .size) (c .before .before .read-planes2 .ensures .words, refl)
+    let read = c .before .before .read-planes2 .ensures in
+    rw (branch .if1 .left, sized (s .args .size) (s .pre .0) .size) (read .words, refl, read .whole)
 
 pub read-coefficients-spec : {M : Type 1} → statement M
 read-coefficients-spec =

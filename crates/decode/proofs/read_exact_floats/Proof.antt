@@ -84,6 +84,7 @@ returns-2 c =
     _ (second .get2 .ensures) (omega arith) (not-false _ (second .before .if1 .left)) (read .before .before .before .if2 .taken)
     (read .read-flipped .ensures .0)
     (read .read-flipped .ensures .1)
+    (read .read-flipped .ensures .2)
 
 same-length-4 : tie.Need-same-length-4
 same-length-4 c = search needs
@@ -101,6 +102,7 @@ returns-3 c =
     _ (second .get2 .ensures) (omega arith) (not-false _ (second .before .if1 .left)) (read .before .before .before .if2 .left)
     (read .read-multiples .ensures .0)
     (read .read-multiples .ensures .1)
+    (read .read-multiples .ensures .2)
 
 pub read-exact-floats-spec : {M : Type 1} → statement M
 read-exact-floats-spec =

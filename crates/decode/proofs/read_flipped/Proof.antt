@@ -24,14 +24,15 @@ same-length-2 c = search needs
 
 returns : tie.Need-returns
 returns c =
-    let change = c .before .before .before .before in
+    let told = c .before in
+    let change = told .before .before .before .before in
     let ints = change .before .before .before .before .before .before in
     let a = ints .before .before .before .before .before .before .args in
     let f = formatOf (a .size) in
     let slot = slice (a .at) (a .end) (bitsOf (a .buf .now)) in
     let read = ints .read-integers .ensures in
     let words = rw (read .0) at (change .change-all .ensures) in
-    (words, flipped-read f (a .d) (a .p) slot words (c .others .ensures) (read .1))
+    (words, flipped-read f (a .d) (a .p) slot words (told .others .ensures) (read .1), read .2)
 
 pub read-flipped-spec : {M : Type 1} → statement M
 read-flipped-spec =

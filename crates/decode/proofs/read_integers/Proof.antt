@@ -26,7 +26,7 @@ returns c =
     let a = s .args in
     let slot = slice (a .at) (a .end) (bitsOf (a .buf .now)) in
     let read = rw (s .pre .1) at (cs .read-coefficients .ensures) in
-    (values-of (a .size) (a .exact) (a .d) (a .p) slot _ _ (s .pre .0 .sized) (read .0) (v .values .ensures), read .1)
+    (values-of (a .size) (a .exact) (a .d) (a .p) slot _ _ (s .pre .0 .sized) (read .0) (v .values .ensures), read .1, read .2)
 
 pub read-integers-spec : {M : Type 1} → statement M
 read-integers-spec =

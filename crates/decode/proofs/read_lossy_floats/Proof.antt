@@ -6,7 +6,7 @@ use lib.ListN.{length, replicate}
 use Rattle.floats.specs.Calls.{formatOf}
 use native.Mathlib.Omega.{arith}
 use Prim.Native.Nat.{ℕ, _≤_}
-use mathlib.Core.Path.{sym, ap, _∙_}
+use mathlib.Core.Path.{ap, _∙_}
 use borrow.Author.Needs.{needs}
 use Rattle.decode.proofs.read_lossy_floats.Statement.{statement}
 use Rattle.decode.proofs.read_lossy_floats.Tie as tie
@@ -43,8 +43,9 @@ returns c =
     let bit = branch .before in
     let a = entry bit .args in
     let bs = bitsOf (a .buf .now) in
-    rw (lossy-some (formatOf (a .size)) (a .d) (a .p) bs (a .at) (a .end) _ (fits bit) (bit .get .ensures) (omega arith) (branch .if1 .taken))
-    (read .read-scaled .ensures)
+    lossy-some (formatOf (a .size)) (a .d) (a .p) bs (a .at) (a .end) _ (fits bit) (bit .get .ensures) (omega arith) (branch .if1 .taken)
+    (read .read-scaled .ensures .0)
+    (read .read-scaled .ensures .1)
 
 same-length-3 : tie.Need-same-length-3
 same-length-3 c = search needs
@@ -57,8 +58,8 @@ returns-2 c =
     let s = entry bit in
     let a = s .args in
     let bs = bitsOf (a .buf .now) in
-    cleared .clear .ensures ∙ ap (λ (n : ℕ). replicate n 0) (s .pre .0 .long)
-    ∙ sym (lossy-zero (formatOf (a .size)) (a .d) (a .p) bs (a .at) (a .end) _ (fits bit) (bit .get .ensures) (omega arith) (branch .if1 .left))
+    lossy-zero (formatOf (a .size)) (a .d) (a .p) bs (a .at) (a .end) _ (fits bit) (bit .get .ensures) (omega arith) (branch .if1 .left)
+    (cleared .clear .ensures ∙ ap (λ (n : ℕ). replicate n 0) (s .pre .0 .long))
 
 pub read-lossy-floats-spec : {M : Type 1} → statement M
 read-lossy-floats-spec =

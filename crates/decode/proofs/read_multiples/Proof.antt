@@ -1,8 +1,9 @@
 -- e, then the integers, which are kept, and of which the words are the patterns. Assumes nothing.
-use Rattle.decode.proofs.Steps.{exponent-read, scaled-read, multiples-read}
+use Rattle.decode.proofs.Steps.{exponent-read, whole-read, scaled-read, multiples-read}
 use Rattle.bits.proofs.StreamLaws.{length-bitsOf}
 use Rattle.bits.specs.Stream.{bitsOf}
 use Rattle.floats.specs.Calls.{formatOf}
+use Prim.Native.Nat.{_+_, _^_, _≤_}
 use native.Mathlib.Omega.{arith}
 use mathlib.Core.Bool.{true}
 use mathlib.Core.List.{map}
@@ -58,7 +59,8 @@ same-length-2 c = search needs
 
 returns : tie.Need-returns
 returns c =
-    let change = c .before .before .before .before .before in
+    let told = c .before in
+    let change = told .before .before .before .before .before in
     let ints = change .before .before .before .before .before .before .before .before .before .before .before in
     let get = at-exponent ints in
     let field = get .before .field-bits .ensures in
@@ -67,11 +69,11 @@ returns c =
     let f = formatOf (a .size) in
     let bs = bitsOf (a .buf .now) in
     let read = ints .read-integers .ensures in
-    let kept = change .before .before .before .before .copy .ensures ∙ read .0 in (
-      scaled-read f (a .d) (a .p) bs (a .at) (a .end) _ _ (field .0) (get .get-number .ensures) (omega (arith, field .0, s .pre .2 .room)) true
-          (read .0) (change .change-all .ensures),
-      multiples-read f (a .d) (a .p) bs (a .at) (a .end) _ _ (field .0) (get .get-number .ensures) (omega (arith, field .0, s .pre .2 .room))
-          kept (c .multiples .ensures) (read .1),
+    let kept = change .before .before .before .before .copy .ensures ∙ read .0 in
+    let room : a .at + get .before .field-bits .result ≤ a .end = omega (arith, field .0, s .pre .2 .room) in (
+      scaled-read f (a .d) (a .p) bs (a .at) (a .end) _ _ (field .0) (get .get-number .ensures) room true (read .0) (change .change-all .ensures),
+      multiples-read f (a .d) (a .p) bs (a .at) (a .end) _ _ (field .0) (get .get-number .ensures) room kept (told .multiples .ensures) (read .1),
+      whole-read f (a .d) (a .p) bs (a .at) (a .end) _ _ (field .0) (get .get-number .ensures) room true (4 ^ a .d) (read .2),
     )
 
 pub read-multiples-spec : {M : Type 1} → statement M

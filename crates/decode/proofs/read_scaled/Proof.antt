@@ -1,8 +1,9 @@
 -- e, then the integers, which become patterns. Assumes nothing.
-use Rattle.decode.proofs.Steps.{exponent-read, scaled-read}
+use Rattle.decode.proofs.Steps.{exponent-read, whole-read, scaled-read}
 use Rattle.bits.proofs.StreamLaws.{length-bitsOf}
 use Rattle.bits.specs.Stream.{bitsOf}
 use Rattle.floats.specs.Calls.{formatOf}
+use Prim.Native.Nat.{_+_, _^_, _≤_}
 use native.Mathlib.Omega.{arith}
 use mathlib.Core.Bool.{false}
 use borrow.Author.Needs.{needs}
@@ -51,9 +52,15 @@ returns c =
     let ints = change .before .before .before .before .before .before in
     let get = at-exponent ints in
     let field = get .before .field-bits .ensures in
-    let a = entry ints .args in
-    scaled-read (formatOf (a .size)) (a .d) (a .p) (bitsOf (a .buf .now)) (a .at) (a .end) _ _ (field .0) (get .get-number .ensures)
-    (omega (arith, field)) false (ints .read-integers .ensures .0) (change .change-all .ensures)
+    let s = entry ints in
+    let a = s .args in
+    let f = formatOf (a .size) in
+    let bs = bitsOf (a .buf .now) in
+    let read = ints .read-integers .ensures in
+    let room : a .at + get .before .field-bits .result ≤ a .end = omega (arith, field .0, s .pre .2 .room) in (
+      scaled-read f (a .d) (a .p) bs (a .at) (a .end) _ _ (field .0) (get .get-number .ensures) room false (read .0) (change .change-all .ensures),
+      whole-read f (a .d) (a .p) bs (a .at) (a .end) _ _ (field .0) (get .get-number .ensures) room false (4 ^ a .d) (read .2),
+    )
 
 pub read-scaled-spec : {M : Type 1} → statement M
 read-scaled-spec =
