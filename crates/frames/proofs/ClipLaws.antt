@@ -13,7 +13,7 @@ use Rattle.params.specs.declared.Params.{Params}
 use Rattle.params.specs.Width.{wordCount}
 use Rattle.params.specs.Rows.{first, parameterRows}
 use Rattle.params.proofs.RowLaws.{good}
-use Rattle.lines.specs.Line.{wellFormed, firstDigits, parametersOf, firstAnswer, answerLine, illFormed}
+use Rattle.lines.specs.Line.{wellFormed, firstDigits, parametersOf, firstAnswer, refusedLine, illFormed}
 use Rattle.lines.specs.Line.{blockWords, storedLine, lineStore, blockDigits, blockLine}
 use Rattle.params.specs.Calls.{goodParameters, noParameters}
 use Rattle.lines.specs.Calls.{firstLine, firstParameters, laterLine}
@@ -55,7 +55,7 @@ module _ (bytes : List ℕ) (ended : Bool) where
   clip-parameters = clipped firstDigits (omega arith) parametersOf noParameters bytes ended
 
   pub clip-first : firstLine (record { bytes = take mostHeld bytes; ended = ended }) ≡ firstLine (record { bytes = bytes; ended = ended })
-  clip-first = ap (λ (a : ℕ). cond (eqb a 0) [] (answerLine a 0 [])) clip-answer
+  clip-first = ap (λ (a : ℕ). cond (eqb a 0) [] (refusedLine a)) clip-answer
 
   pub clip-later : (p : Params) → laterLine p (record { bytes = take mostHeld bytes; ended = ended }) ≡ laterLine p (record { bytes = bytes; ended = ended })
   unfolding blockLine

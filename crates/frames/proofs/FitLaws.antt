@@ -13,7 +13,7 @@ use Rattle.params.specs.Width.{wordCount, widestBytes}
 use Rattle.params.specs.Rows.{first, parameterRows}
 use Rattle.slots.specs.Outcome.{Stored}
 use Rattle.params.proofs.RowLaws.{good}
-use Rattle.lines.specs.Line.{newline, Line, wellFormed, firstAnswer, answerLine, illFormed}
+use Rattle.lines.specs.Line.{newline, Line, wellFormed, firstAnswer, refusedLine, illFormed}
 use Rattle.lines.specs.Line.{bytesOf, blockWords, slotBytes, storedLine, lineStore, blockDigits, blockLine}
 use Rattle.lines.specs.Calls.{longestLine, firstLine, laterLine}
 use Rattle.params.specs.Calls.{goodParameters}
@@ -28,14 +28,14 @@ length-bytesOf (suc n) bits = ap suc (length-bytesOf n (drop 8 bits))
 
 stored-length : (p : Params) (o : Stored) → slotBytes p ≤ widestBytes → length (storedLine p o) ≤ longestLine
 unfolding storedLine
-stored-length p o h = rw (length-answer (o .answer) (o .count) (cond (eqb (o .answer) 0) (bytesOf (slotBytes p) (o .bits)) [])) (go (eqb (o .answer) 0))
+stored-length p o h = rw (length-answer (o .answer) (o .count) (o .planes) (cond (eqb (o .answer) 0) (bytesOf (slotBytes p) (o .bits)) [])) (go (eqb (o .answer) 0))
   where
-    go : (t : Bool) → 7 + 2 * length (cond t (bytesOf (slotBytes p) (o .bits)) []) ≤ longestLine
+    go : (t : Bool) → 9 + 2 * length (cond t (bytesOf (slotBytes p) (o .bits)) []) ≤ longestLine
     go true = omega (arith, length-bytesOf (slotBytes p) (o .bits))
     go false = omega arith
 
-refusal-length : (answer : ℕ) → length (answerLine answer 0 []) ≤ longestLine
-refusal-length answer = omega (arith, length-answer answer 0 [])
+refusal-length : (answer : ℕ) → length (refusedLine answer) ≤ longestLine
+refusal-length answer = omega (arith, length-answer answer 0 0 [])
 
 block-length : (p : Params) (l : Line) → goodParameters p ≡ true → length (blockLine p l) ≤ longestLine
 unfolding blockLine slotBytes
@@ -55,7 +55,7 @@ answer-length s ended = go (s .started)
     later true e = block-length (s .params) (lineOf s ended) e
     later false e = omega arith
 
-    before : (a : ℕ) (t : Bool) → length (cond t [] (answerLine a 0 [])) ≤ longestLine
+    before : (a : ℕ) (t : Bool) → length (cond t [] (refusedLine a)) ≤ longestLine
     before a true = omega arith
     before a false = refusal-length a
 

@@ -10,7 +10,7 @@ use lib.Dec.{eqb}
 use lib.ListN.{length, take}
 use Rattle.params.specs.declared.Params.{Params}
 use Rattle.params.specs.Rows.{first, parameterRows}
-use Rattle.lines.specs.Line.{newline, Line, wellFormed, firstDigits, parametersOf, firstAnswer, answerLine, blockLine}
+use Rattle.lines.specs.Line.{newline, Line, wellFormed, firstDigits, parametersOf, firstAnswer, refusedLine, blockLine}
 use Rattle.lines.specs.Calls.{longestLine, firstLine, firstParameters}
 use Rattle.params.specs.Calls.{goodParameters, noParameters}
 use Rattle.frames.specs.Listing.{lastLine, linesAfter, listLines, listing}
@@ -59,14 +59,14 @@ first-then l ls = go (wellFormed firstDigits l)
     a : ℕ
     a = first (parameterRows (parametersOf (l .bytes)))
 
-    good : (t : Bool) → cond t [] (answerLine a 0 []) ++ cond t (flatMap (blockLine (parametersOf (l .bytes))) ls) []
-        ≡ cond t (flatMap (blockLine (parametersOf (l .bytes))) ls) (answerLine a 0 [])
+    good : (t : Bool) → cond t [] (refusedLine a) ++ cond t (flatMap (blockLine (parametersOf (l .bytes))) ls) []
+        ≡ cond t (flatMap (blockLine (parametersOf (l .bytes))) ls) (refusedLine a)
     good true = refl
     good false = append-nil _
 
     go : (w : Bool)
-        → cond (eqb (cond w a 12) 0) [] (answerLine (cond w a 12) 0 []) ++ remaining true (cond w (parametersOf (l .bytes)) noParameters) ls
-        ≡ cond (eqb (cond w a 12) 0) (flatMap (blockLine (parametersOf (l .bytes))) ls) (answerLine (cond w a 12) 0 [])
+        → cond (eqb (cond w a 12) 0) [] (refusedLine (cond w a 12)) ++ remaining true (cond w (parametersOf (l .bytes)) noParameters) ls
+        ≡ cond (eqb (cond w a 12) 0) (flatMap (blockLine (parametersOf (l .bytes))) ls) (refusedLine (cond w a 12))
     go true = good (eqb a 0)
     go false = append-nil _
 
