@@ -9,8 +9,8 @@ use lib.ListN.{length}
 use lib.Count.{leadingZeros}
 use lib.Ieee.{ofBits, toBits, round}
 use Rattle.words.specs.Word.{plus, minus, half, nega, unnega, flip}
-use Rattle.planes.specs.Coder.{planeCode, planeNext, planesCode}
-use Rattle.planes.specs.Reader.{readPlane, readNext, readWords}
+use Rattle.planes.specs.Coder.{planeCode, planeNext, planesCode, planesWithin}
+use Rattle.planes.specs.Reader.{readPlane, readNext, readWords, wholePlanes}
 use Rattle.transforms.specs.Four.{twiceLess, lift, unlift, differ, undiffer}
 use Rattle.blocks.specs.Axes.{along}
 use Rattle.order.specs.Tables.{cubeOrder, stackOrder}
@@ -21,6 +21,7 @@ use Rattle.rounding.specs.Rounded.{scaled, toPattern}
 use Rattle.codec.specs.Head.{planesNeeded, exactPlanes}
 use Rattle.codec.specs.Code.{lossyIntegers, lossyFloats, exactIntegers, exactFloats, definedCode}
 use Rattle.codec.specs.Read.{readIntegers, readLossyFloats, readExactFloats, readCode}
+use Rattle.codec.specs.Depth.{wholeWritten, wholeLossyFloats, wholeExactFloats, wholeRead}
 use Rattle.fpc_stream.specs.Predictors.{side, fcmHash, dfcmHash}
 use Rattle.fpc_stream.specs.Stream.{zeroBytes, residual, residualCode, halfByte, remaining, pairBytes, oddBytes, stream}
 use Rattle.fpc_stream.specs.Reading.{decoded, coded, stepOf, read}
@@ -28,7 +29,7 @@ use Rattle.fpc_stream.specs.Outcome.{delivered, readInto}
 use Rattle.fpc_stream.proofs.Rows.{good-tables, read-later}
 use Rattle.bits.specs.Stream.{write}
 use Rattle.params.specs.Width.{slotsIn}
-use Rattle.slot_code.specs.Rules.{codeOf, wordsOf}
+use Rattle.slot_code.specs.Rules.{codeOf, wordsOf, depthOf, depthIn}
 use Rattle.slots.specs.Outcome.{countOutcome, storeOutcome, readOutcome, slotOf}
 use Rattle.hex.specs.Digits.{hexDigit, digitValue}
 use Rattle.lines.specs.Line.{wellFormed, parametersOf, firstAnswer, answerLine, slotBytes, storedLine, blockLine}
@@ -36,10 +37,10 @@ use Rattle.claims.specs.Table.{P12, Paper, Ours, Table}
 
 -- everything that the cases compute with
 unfoldable computed : ℕ
-unfolding plus minus half twiceLess nega unnega flip planeCode planeNext planesCode readPlane readNext readWords lift unlift differ undiffer
+unfolding plus minus half twiceLess nega unnega flip planeCode planeNext planesCode planesWithin readPlane readNext readWords wholePlanes lift unlift differ undiffer
     along cubeOrder stackOrder reorder restore coefficients values
     toInteger toPattern signed scaled whole ofBits toBits round planesNeeded exactPlanes lossyIntegers lossyFloats exactIntegers exactFloats definedCode
-    readIntegers readExactFloats readLossyFloats readCode slotsIn codeOf wordsOf write countOutcome storeOutcome readOutcome slotOf
+    readIntegers readExactFloats readLossyFloats readCode wholeWritten wholeLossyFloats wholeExactFloats wholeRead slotsIn codeOf wordsOf depthOf depthIn write countOutcome storeOutcome readOutcome slotOf
     leadingZeros side fcmHash dfcmHash zeroBytes residual residualCode halfByte remaining pairBytes oddBytes stream decoded coded stepOf read
     delivered
     flatMap hexDigit digitValue wellFormed parametersOf firstAnswer answerLine slotBytes storedLine blockLine
@@ -92,6 +93,9 @@ ours = (
   refl,
   (refl, refl, refl, refl),
   (refl, refl),
+  (refl, refl, refl, refl),
+  (refl, refl, refl, refl),
+  (refl, refl, refl),
   refl,
   (refl, refl, refl),
 )

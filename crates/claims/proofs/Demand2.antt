@@ -13,7 +13,8 @@ use Rattle.params.specs.declared.Params.{Params}
 use Rattle.params.specs.Width.{exact, widthOf}
 use Rattle.params.specs.Rows.{first}
 use Rattle.params.proofs.RowLaws.{placed}
-use Rattle.slot_code.specs.Rules.{codeOf, wordsOf, row11}
+use Rattle.slot_code.specs.Rules.{codeOf, wordsOf, depthIn, row11}
+use Rattle.slot_code.proofs.Depth.{depth-back}
 use Rattle.slot_code.proofs.Garbage.{padded-returns, row11-exactly}
 use Rattle.slots.specs.Rows.{readRows}
 use Rattle.slots.specs.Outcome.{storeOutcome, readOutcome}
@@ -21,7 +22,7 @@ use Rattle.slots.proofs.RowLaws.{read-first}
 use Rattle.fpc_stream.proofs.RoundTrip.{stream-injective}
 use Rattle.fpc_stream.proofs.Promises.{written-is-read, answer-23}
 use Rattle.claims.specs.Demand2.{ReadBack, RefusedExactly, ReadAnswer, Demand2}
-use Rattle.claims.proofs.Stored.{parts, at-place, storable, fits, slot-after}
+use Rattle.claims.proofs.Stored.{parts, at-place, storable, fits, depth-stored, slot-after}
 
 -- the slot reads as the block, so row 11 does not apply
 module _ (p : Params) (archive : List ℕ) (k : ℕ) (ws : List ℕ) (e : exact p ≡ true) (small : AllBelow (2 ^ 32) ws)
@@ -41,8 +42,9 @@ module _ (p : Params) (archive : List ℕ) (k : ℕ) (ws : List ℕ) (e : exact 
   pub comes-back : (before : List ℕ) → length before ≡ length ws → ReadBack p archive k ws before
   unfolding readOutcome
   comes-back before long =
-      let s = slot-after p archive k ws (storable p archive k ws done) (fits p archive k ws done e) in
-      rw (s, long, rows, words) refl
+      let s = slot-after p archive k ws (storable p archive k ws done) (fits p archive k ws done) in
+      let depth : depthIn p slot ≡ storeOutcome p archive k ws .planes = depth-back p (at-place p archive k ws done .good .dimension) ws ∙ sym (depth-stored p archive k ws done) in
+      rw (s, long, rows, words, depth) refl
 
 -- an exact read answers 11 exactly where no block's padded code equals the slot
 refused-exactly : RefusedExactly
@@ -58,7 +60,7 @@ refused-exactly p size k slot before none e =
 
 read-answer : ReadAnswer
 unfolding readOutcome
-read-answer p size k slot u v e = rw e (refl, refl)
+read-answer p size k slot u v e = rw e (refl, refl, refl)
 
 pub demand2 : Demand2
 demand2 = (

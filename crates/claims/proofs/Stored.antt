@@ -6,7 +6,7 @@ use Prim.Native.Nat.{ℕ, _+_, _-_, _*_, _≤_, _<_}
 use native.Mathlib.Omega.{arith}
 use borrow.Author.Tests.{ltb-false, le-ltb, lt-ltb}
 use lib.Dec.{ltb}
-use lib.ListN.{length, length-append, length-replicate, replicate}
+use lib.ListN.{length, length-append, length-replicate, length-take, replicate}
 use lib.Seq.{slice, slice-empty}
 use Rattle.bits.specs.Stream.{bitsOf, write}
 use Rattle.bits.proofs.StreamLaws.{length-bitsOf}
@@ -17,7 +17,9 @@ use Rattle.params.specs.Width.{exact, widthOf}
 use Rattle.params.specs.Rows.{first, placeRows}
 use Rattle.params.proofs.RowLists.{none, first-both}
 use Rattle.params.proofs.RowLaws.{Placed, placed}
-use Rattle.slot_code.specs.Rules.{codeOf, row9, row10}
+use Rattle.slot_code.specs.Rules.{codeOf, depthOf, row9, row10}
+use Rattle.slot_code.specs.Calls.{uncutOf}
+use Rattle.slot_code.proofs.SlotLaws.{lossy-code}
 use Rattle.slots.specs.Rows.{storeRows}
 use Rattle.slots.specs.Outcome.{storeOutcome, slotIn}
 use Rattle.slots.proofs.RowLaws.{store-first}
@@ -36,10 +38,17 @@ module _ (p : Params) (archive : List ℕ) (k : ℕ) (ws : List ℕ) where
     pub storable : Storable p archive k ws
     storable = (parts .0, none (row9 p ws ∷ row10 p ws ∷ []) refl (parts .1) .0)
 
-    pub fits : exact p ≡ true → length (codeOf p ws) ≤ widthOf p
-    fits e =
-        let h = none (row9 p ws ∷ row10 p ws ∷ []) refl (parts .1) .1 .0 in
-        ltb-false (widthOf p) (length (codeOf p ws)) (rw e at h)
+    -- a lossy code is cut to the slot, and row 10 does not apply to an exact one
+    pub fits : length (codeOf p ws) ≤ widthOf p
+    fits = go (exact p) refl (none (row9 p ws ∷ row10 p ws ∷ []) refl (parts .1) .1 .0)
+      where
+        go : (x : Bool) → exact p ≡ x → (x && ltb (widthOf p) (length (codeOf p ws))) ≡ false → length (codeOf p ws) ≤ widthOf p
+        go true e h = ltb-false (widthOf p) (length (codeOf p ws)) h
+        go false e h = omega (arith, ap length (lossy-code p ws (at-place .good .width-from) e), length-take (widthOf p) (uncutOf p ws))
+
+    pub depth-stored : storeOutcome p archive k ws .planes ≡ depthOf p ws
+    unfolding storeOutcome
+    depth-stored = rw done
 
   -- the slot, where the padded code was written
   slot-written : Placed p (length archive) k (length ws) → length (codeOf p ws) ≤ widthOf p

@@ -17,10 +17,11 @@ use Rattle.fpc_stream.specs.Stream.{stream}
 use Rattle.fpc_stream.specs.Reading.{IsStream}
 use Rattle.fpc_stream.specs.Outcome.{goodTables, mostBytes, fpcWriteOutcome, fpcReadOutcome}
 
--- a read of the slot, of the bits that the store of the block left, is done and gives the block
+-- a read of the slot, of the bits that the store of the block left, is done and gives the block, and as many planes as the store
 abbrev pub ReadBack : Params → List ℕ → ℕ → List ℕ → List ℕ → Type 0
 ReadBack p archive k ws before =
-    readOutcome p (length archive) k (slotIn p (storeOutcome p archive k ws .bits) k) before ≡ record { answer = 0; count = wordCount p; words = ws }
+    readOutcome p (length archive) k (slotIn p (storeOutcome p archive k ws .bits) k) before 
+    ≡ record { answer = 0; count = wordCount p; planes = storeOutcome p archive k ws .planes; words = ws }
 
 -- "Every exact block .. comes back bit for bit": what a done exact store left, a read with the same parameters gives into any buffer of N words
 abbrev pub ExactComesBack : Type 0
@@ -76,11 +77,12 @@ ReadDepends =
     (p : Params) (a b : List ℕ) (k : ℕ) (before : List ℕ) → length a ≡ length b → slotOf p a k ≡ slotOf p b k
     → readOutcome p (length a) k (slotOf p a k) before ≡ readOutcome p (length b) k (slotOf p b k) before
 
--- and of the word buffer an answer and its count need the length alone
+-- and of the word buffer an answer, its count and its planes need the length alone
 abbrev pub ReadAnswer : Type 0
 ReadAnswer =
     (p : Params) (size k : ℕ) (slot : List Bool) (u v : List ℕ) → length u ≡ length v
     → (readOutcome p size k slot u .answer ≡ readOutcome p size k slot v .answer) × (readOutcome p size k slot u .count ≡ readOutcome p size k slot v .count)
+    × (readOutcome p size k slot u .planes ≡ readOutcome p size k slot v .planes)
 
 abbrev pub Demand2 : Type 0
 Demand2 = ExactComesBack × RefusedExactly × RunComesBack × OneRunAStream × Refused23 × ReadDepends × ReadAnswer

@@ -7,8 +7,8 @@ use lib.Ieee.{binary32}
 use lib.ListN.{length, take, replicate}
 use Rattle.bits.specs.Stream.{bit, bitsOf}
 use Rattle.words.specs.Word.{half, nega, unnega}
-use Rattle.planes.specs.Coder.{planeCode, planeNext}
-use Rattle.planes.specs.Reader.{readWords}
+use Rattle.planes.specs.Coder.{planeCode, planeNext, planesWithin}
+use Rattle.planes.specs.Reader.{readWords, wholePlanes}
 use Rattle.order.specs.Lists.{tabulate}
 use Rattle.blocks.specs.Coefficients.{coefficients}
 use Rattle.rounding.specs.Rounded.{toPattern}
@@ -82,7 +82,7 @@ P6 = (floats (replicate 4 0) ≡ false ∷ []) × (take 2 (floats (replicate 4 0
 
 -- P7: "lossy integers 1 0 0 0, P = 32, W = 131: reads 0 0 0 0"
 abbrev pub P7 : Type 0
-P7 = readBack (lossyIntegersAt 131) 17 (1 ∷ 0 ∷ 0 ∷ 0 ∷ []) ≡ record { answer = 0; count = 4; words = replicate 4 0 }
+P7 = readBack (lossyIntegersAt 131) 17 (1 ∷ 0 ∷ 0 ∷ 0 ∷ []) ≡ record { answer = 0; count = 4; planes = 32; words = replicate 4 0 }
 
 -- P8: "-1, 1, 2, -2 in negabinary: 3, 1, 6, 2", and back
 abbrev pub P8 : Type 0
@@ -120,21 +120,22 @@ P12 = (f d room : List ℕ) → goodTables f d ≡ true → fpcReadOutcome f d (
 -- "W = 0 stands for 8N": 16 bytes have four slots in dimension 1 and one in dimension 2
 abbrev pub WidthZero : Type 0
 WidthZero =
-    (countOutcome (exactIntegersAt 0) 16 ≡ record { answer = 0; count = 4 })
-    × (countOutcome (record { kind = 0; dimension = 2; mode = 1; planes = 32; width = 0 }) 16 ≡ record { answer = 0; count = 1 })
+    (countOutcome (exactIntegersAt 0) 16 ≡ record { answer = 0; count = 4; planes = 0 })
+    × (countOutcome (record { kind = 0; dimension = 2; mode = 1; planes = 32; width = 0 }) 16 ≡ record { answer = 0; count = 1; planes = 0 })
 
 -- six bits of code and eleven of padding go between two neighbours of ones, at a width that is no multiple of 8
 abbrev pub BetweenNeighbours : Type 0
 BetweenNeighbours =
     storeOutcome (exactIntegersAt 17) (replicate 7 0xff) 1 (replicate 4 0)
-    ≡ record { answer = 0; count = 6; bits = bitsOf (0xff ∷ 0xff ∷ 0x01 ∷ 0x00 ∷ 0xfc ∷ 0xff ∷ 0xff ∷ []) }
+    ≡ record { answer = 0; count = 6; planes = 1; bits = bitsOf (0xff ∷ 0xff ∷ 0x01 ∷ 0x00 ∷ 0xfc ∷ 0xff ∷ 0xff ∷ []) }
 
--- lossy floats 1.0 in 16 bits: a 1, e = 128, and of the planes W - 9 = 7 bits, 0 110 10 0; what is cut off is zeros, so they come back
+-- lossy floats 1.0 in 16 bits: a 1, e = 128, and of the planes W - 9 = 7 bits, 0 110 10 0; what is cut off is zeros, so they come back, but three planes
+-- are whole, and the fourth, which loses its final test, is not
 abbrev pub LossyFloats : Type 0
 LossyFloats =
     (storeOutcome (lossyFloatsAt 16) (replicate 2 0) 0 (replicate 4 0x3f80_0000)
-    ≡ record { answer = 0; count = 16; bits = bits (1 ∷ 0 ∷ 0 ∷ 0 ∷ 0 ∷ 0 ∷ 0 ∷ 0 ∷ 1 ∷ 0 ∷ 1 ∷ 1 ∷ 0 ∷ 1 ∷ 0 ∷ 0 ∷ []) })
-    × (readBack (lossyFloatsAt 16) 2 (replicate 4 0x3f80_0000) ≡ record { answer = 0; count = 4; words = replicate 4 0x3f80_0000 })
+    ≡ record { answer = 0; count = 16; planes = 3; bits = bits (1 ∷ 0 ∷ 0 ∷ 0 ∷ 0 ∷ 0 ∷ 0 ∷ 0 ∷ 1 ∷ 0 ∷ 1 ∷ 1 ∷ 0 ∷ 1 ∷ 0 ∷ 0 ∷ []) })
+    × (readBack (lossyFloatsAt 16) 2 (replicate 4 0x3f80_0000) ≡ record { answer = 0; count = 4; planes = 3; words = replicate 4 0x3f80_0000 })
 
 -- what a read of slot 0 of these bytes gives; the buffer holds 9s before
 abbrev pub readOf : Params → List ℕ → Fetched
@@ -143,8 +144,8 @@ readOf p archive = readOutcome p (length archive) 0 (slotOf p archive 0) (replic
 -- 11 for a one in the padding of P1's six bits; and for bits 1 0 with e = 0, since zeros are coded as a single 0
 abbrev pub Answers11 : Type 0
 Answers11 =
-    (readOf (exactIntegersAt 16) (0x00 ∷ 0x80 ∷ []) ≡ record { answer = 11; count = 0; words = replicate 4 9 })
-    × (readOf (exactFloatsAt 16) (0x01 ∷ 0x00 ∷ []) ≡ record { answer = 11; count = 0; words = replicate 4 9 })
+    (readOf (exactIntegersAt 16) (0x00 ∷ 0x80 ∷ []) ≡ record { answer = 11; count = 0; planes = 0; words = replicate 4 9 })
+    × (readOf (exactFloatsAt 16) (0x01 ∷ 0x00 ∷ []) ≡ record { answer = 11; count = 0; planes = 0; words = replicate 4 9 })
 
 -- ---- rows of our own: coefficients and planes
 
@@ -222,8 +223,31 @@ RampsTold =
 -- "W goes up to 8,462", also of a block of four words; 8,463 is refused
 abbrev pub WidestSlots : Type 0
 WidestSlots =
-    (countOutcome (exactIntegersAt 8462) 2116 ≡ record { answer = 0; count = 2 })
-    × (countOutcome (exactIntegersAt 8463) 2116 ≡ record { answer = 5; count = 0 })
+    (countOutcome (exactIntegersAt 8462) 2116 ≡ record { answer = 0; count = 2; planes = 0 })
+    × (countOutcome (exactIntegersAt 8463) 2116 ≡ record { answer = 5; count = 0; planes = 0 })
+
+-- ---- rows of our own: planes that are whole
+
+-- one word 2^31 of four: plane 31 is 1 1 0, plane 30 is 0 0, so they end at bits 3 and 5; a plane without its final test is not counted, and neither is one that
+-- loses nothing but zeros
+abbrev pub PlanesWritten : Type 0
+PlanesWritten =
+    let ws : List ℕ = 2 ^ 31 ∷ 0 ∷ 0 ∷ 0 ∷ [] in
+    (planesWithin 32 2 5 ws ≡ 2) × (planesWithin 32 2 4 ws ≡ 1) × (planesWithin 32 2 3 ws ≡ 1) × (planesWithin 32 2 2 ws ≡ 0)
+
+-- a plane whose last one is known at place N - 1 as the budget ends is whole, and one bit less is not; of four ones, coded 1 1 1 1 1 1 1, n is 4 afterwards,
+-- and a plane whose n bits end with the budget is whole, with one bit less not
+abbrev pub PlanesFound : Type 0
+PlanesFound =
+    (wholePlanes 4 1 (bits (1 ∷ 0 ∷ 0 ∷ 0 ∷ [])) ≡ 1) × (wholePlanes 4 1 (bits (1 ∷ 0 ∷ 0 ∷ [])) ≡ 0)
+    × (wholePlanes 4 2 (bits (replicate 11 1)) ≡ 2) × (wholePlanes 4 2 (bits (replicate 10 1)) ≡ 1)
+
+-- "A kind 1 block coded as a single 0 has 0, other exact blocks p": four +0 exact and lossy, and four -0, whose words have a one in the lowest plane when flipped
+abbrev pub PlanesOfZeros : Type 0
+PlanesOfZeros =
+    (storeOutcome (exactFloatsAt 16) (replicate 2 0) 0 (replicate 4 0) .planes ≡ 0)
+    × (storeOutcome (lossyFloatsAt 16) (replicate 2 0) 0 (replicate 4 0) .planes ≡ 0)
+    × (storeOutcome (exactFloatsAt 146) (replicate 19 0) 0 (replicate 4 0x8000_0000) .planes ≡ 32)
 
 -- ---- rows of our own: the listing
 
@@ -231,16 +255,16 @@ WidestSlots =
 abbrev pub Listed : Type 0
 Listed =
     listing (textLine "000101200030" ++ textLine "00000001000000010000000100000001" ++ textLine "aaaaaaab55555556aaaaaaac55555558")
-    ≡ textLine "0000271f0000003000" ++ textLine "0a0088"
+    ≡ textLine "000027201f0000003000" ++ textLine "0a008800"
 
 -- "so is empty input, as a first line"; a bad first line's one answer, for dimension 5; "For an ill-formed line 12 comes before all other rows"
 abbrev pub ListedBad : Type 0
 ListedBad =
-    (listing [] ≡ textLine "0c0000")
-    × (listing (textLine "000501200030" ++ textLine "00000001000000010000000100000001") ≡ textLine "020000")
+    (listing [] ≡ textLine "0c000000")
+    × (listing (textLine "000501200030" ++ textLine "00000001000000010000000100000001") ≡ textLine "02000000")
     × (listing
     (textLine "010100200030" ++ textLine "7F800000000000000000000000000000" ++ textLine "7f800000000000000000000000000000" ++ text "00")
-    ≡ textLine "0c0000" ++ textLine "090000" ++ textLine "0c0000")
+    ≡ textLine "0c000000" ++ textLine "09000000" ++ textLine "0c000000")
 
 -- ---- all
 
@@ -250,7 +274,7 @@ Paper = P1 × P2 × P3 × P4 × P5 × P6 × P7 × P8 × P9 × P10 × P11 × P12
 abbrev pub Ours : Type 0
 Ours =
     WidthZero × BetweenNeighbours × LossyFloats × Answers11 × OrderTold × NegativeHalved × RoundingTie × CutScan × CutScanAtLast × CutVerbatim
-    × FourAsThree × DfcmTaken × TieTakesFcm × OddThree × HashWraps × RampsTold × WidestSlots × Listed × ListedBad
+    × FourAsThree × DfcmTaken × TieTakesFcm × OddThree × HashWraps × RampsTold × WidestSlots × PlanesWritten × PlanesFound × PlanesOfZeros × Listed × ListedBad
 
 abbrev pub Table : Type 0
 Table = Paper × Ours

@@ -31,7 +31,7 @@ stored-block p archive k ws back e small z long = rw (eq-eqb _ 0 z, comes-back p
 
 left-alone : OtherSlotRead
 unfolding readAfterStore
-left-alone p archive k ws j back h = rw (other-slot p archive k ws j h) (refl, refl, refl)
+left-alone p archive k ws j back h = rw (other-slot p archive k ws j h) (refl, refl, refl, refl)
 
 -- the code stands at the start of the buffer
 module _ (size : ℕ) (ws : List ℕ) (p : ℕ) (buf : List ℕ) (small : AllBelow (2 ^ size) ws) (few : p ≤ size) (some : 1 ≤ length ws)

@@ -22,18 +22,19 @@ use Rattle.fpc_stream.specs.Outcome.{fpcWriteOutcome, fpcReadOutcome}
 pub record StoreRead : Type 0 where
   pub answer : ℕ
   pub count : ℕ
+  pub planes : ℕ
   pub bits : List Bool
   pub words : List ℕ
 
 abbrev pub storeRead : Reply → List ℕ → List ℕ → StoreRead
-storeRead r archive words = record { answer = r .answer; count = r .count; bits = bitsOf archive; words = words }
+storeRead r archive words = record { answer = r .answer; count = r .count; planes = r .planes; bits = bitsOf archive; words = words }
 
 -- a block into slot k, whatever that answers, and then a read of slot j
 unfoldable pub readAfterStore : Params → List ℕ → ℕ → List ℕ → ℕ → List ℕ → StoreRead
 readAfterStore p archive k ws j back =
     let s = storeOutcome p archive k ws in
     let r = readOutcome p (length archive) j (slotIn p (s .bits) j) back in
-    record { answer = r .answer; count = r .count; bits = s .bits; words = r .words }
+    record { answer = r .answer; count = r .count; planes = r .planes; bits = s .bits; words = r .words }
 
 -- a block into slot k and, if that is done, a read of the slot
 unfoldable pub storeThenRead : Params → List ℕ → ℕ → List ℕ → List ℕ → StoreRead
@@ -42,7 +43,7 @@ storeThenRead p archive k ws back =
     let s = storeOutcome p archive k ws in
     cond (eqb (s .answer) 0)
     (readAfterStore p archive k ws k back)
-    (record { answer = s .answer; count = s .count; bits = s .bits; words = back })
+    (record { answer = s .answer; count = s .count; planes = s .planes; bits = s .bits; words = back })
 
 -- ---- planes coded at the start of a buffer and read back
 
@@ -91,12 +92,19 @@ writeThenRead f d vs buf back =
 
 -- ---- what comes back
 
--- an exact block that was stored is read
+-- an exact block that was stored is read, with as many planes
 abbrev pub StoredBlock : Type 0
 StoredBlock =
     (p : Params) (archive : List ℕ) (k : ℕ) (ws back : List ℕ)
     → exact p ≡ true → AllBelow (2 ^ 32) ws → storeOutcome p archive k ws .answer ≡ 0 → length back ≡ length ws
-    → storeThenRead p archive k ws back ≡ record { answer = 0; count = wordCount p; bits = storeOutcome p archive k ws .bits; words = ws }
+    → storeThenRead p archive k ws back
+    ≡ record {
+      answer = 0;
+      count = wordCount p;
+      planes = storeOutcome p archive k ws .planes;
+      bits = storeOutcome p archive k ws .bits;
+      words = ws;
+    }
 
 -- a store into one slot leaves what a read of another gives
 abbrev pub OtherSlotRead : Type 0
@@ -104,6 +112,7 @@ OtherSlotRead =
     (p : Params) (archive : List ℕ) (k : ℕ) (ws : List ℕ) (j : ℕ) (back : List ℕ) → (j ≡ k → ⊥)
     → (readAfterStore p archive k ws j back .answer ≡ readOutcome p (length archive) j (slotOf p archive j) back .answer)
     × (readAfterStore p archive k ws j back .count ≡ readOutcome p (length archive) j (slotOf p archive j) back .count)
+    × (readAfterStore p archive k ws j back .planes ≡ readOutcome p (length archive) j (slotOf p archive j) back .planes)
     × (readAfterStore p archive k ws j back .words ≡ readOutcome p (length archive) j (slotOf p archive j) back .words)
 
 -- of words of `size` bits, coded to p planes with room for any code of them, the p top planes come back, the others are 0
