@@ -37,10 +37,11 @@ use Rattle.claims.specs.Table.{P12, Paper, Ours, Table}
 
 -- everything that the cases compute with
 unfoldable computed : ℕ
-unfolding plus minus half twiceLess nega unnega flip planeCode planeNext planesCode planesWithin readPlane readNext readWords wholePlanes lift unlift differ undiffer
-    along cubeOrder stackOrder reorder restore coefficients values
+unfolding plus minus half twiceLess nega unnega flip planeCode planeNext planesCode planesWithin readPlane readNext readWords wholePlanes
+    lift unlift differ undiffer along cubeOrder stackOrder reorder restore coefficients values
     toInteger toPattern signed scaled whole ofBits toBits round planesNeeded exactPlanes lossyIntegers lossyFloats exactIntegers exactFloats definedCode
-    readIntegers readExactFloats readLossyFloats readCode wholeWritten wholeLossyFloats wholeExactFloats wholeRead slotsIn codeOf wordsOf depthOf depthIn write countOutcome storeOutcome readOutcome slotOf
+    readIntegers readExactFloats readLossyFloats readCode wholeWritten wholeLossyFloats wholeExactFloats wholeRead
+    slotsIn codeOf wordsOf depthOf depthIn write countOutcome storeOutcome readOutcome slotOf
     leadingZeros side fcmHash dfcmHash zeroBytes residual residualCode halfByte remaining pairBytes oddBytes stream decoded coded stepOf read
     delivered
     flatMap hexDigit digitValue wellFormed parametersOf firstAnswer answerLine slotBytes storedLine blockLine

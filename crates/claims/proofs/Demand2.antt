@@ -13,7 +13,7 @@ use Rattle.params.specs.declared.Params.{Params}
 use Rattle.params.specs.Width.{exact, widthOf}
 use Rattle.params.specs.Rows.{first}
 use Rattle.params.proofs.RowLaws.{placed}
-use Rattle.slot_code.specs.Rules.{codeOf, wordsOf, depthIn, row11}
+use Rattle.slot_code.specs.Rules.{codeOf, wordsOf, row11}
 use Rattle.slot_code.proofs.Depth.{depth-back}
 use Rattle.slot_code.proofs.Garbage.{padded-returns, row11-exactly}
 use Rattle.slots.specs.Rows.{readRows}
@@ -43,7 +43,7 @@ module _ (p : Params) (archive : List ℕ) (k : ℕ) (ws : List ℕ) (e : exact 
   unfolding readOutcome
   comes-back before long =
       let s = slot-after p archive k ws (storable p archive k ws done) (fits p archive k ws done) in
-      let depth : depthIn p slot ≡ storeOutcome p archive k ws .planes = depth-back p (at-place p archive k ws done .good .dimension) ws ∙ sym (depth-stored p archive k ws done) in
+      let depth = depth-back p (at-place p archive k ws done .good .dimension) ws ∙ sym (depth-stored p archive k ws done) in
       rw (s, long, rows, words, depth) refl
 
 -- an exact read answers 11 exactly where no block's padded code equals the slot

@@ -2,7 +2,7 @@
 use mathlib.Core.Path.{_≡_, refl, sym, ap, _∙_}
 use mathlib.Core.Bool.{Bool, true, false, cond}
 use mathlib.Core.List.{List, [], _∷_}
-use Prim.Native.Nat.{ℕ, _^_, _≤_}
+use Prim.Native.Nat.{ℕ, _≤_}
 use native.Mathlib.Omega.{arith}
 use borrow.Author.Tests.{eq-eqb, ne-eqb, not-false}
 use lib.Dec.{eqb}
@@ -34,7 +34,8 @@ unfolding readOutcome
 lossy-written p archive k ws before e done long =
     let slot = padded (widthOf p) (codeOf p ws) in
     let s = slot-after p archive k ws (storable p archive k ws done) (fits p archive k ws done) in
-    let none : first (readRows p (length archive) k slot (length ws)) ≡ 0 = read-first p (length archive) k (length ws) slot (parts p archive k ws done .0) ∙ rw e in
+    let none : first (readRows p (length archive) k slot (length ws)) ≡ 0 =
+    read-first p (length archive) k (length ws) slot (parts p archive k ws done .0) ∙ rw e in
     let depth = depth-back p (at-place p archive k ws done .good .dimension) ws ∙ sym (depth-stored p archive k ws done) in
     rw (s, long, none) (refl, depth)
 

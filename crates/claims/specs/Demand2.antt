@@ -20,7 +20,7 @@ use Rattle.fpc_stream.specs.Outcome.{goodTables, mostBytes, fpcWriteOutcome, fp
 -- a read of the slot, of the bits that the store of the block left, is done and gives the block, and as many planes as the store
 abbrev pub ReadBack : Params → List ℕ → ℕ → List ℕ → List ℕ → Type 0
 ReadBack p archive k ws before =
-    readOutcome p (length archive) k (slotIn p (storeOutcome p archive k ws .bits) k) before 
+    readOutcome p (length archive) k (slotIn p (storeOutcome p archive k ws .bits) k) before
     ≡ record { answer = 0; count = wordCount p; planes = storeOutcome p archive k ws .planes; words = ws }
 
 -- "Every exact block .. comes back bit for bit": what a done exact store left, a read with the same parameters gives into any buffer of N words

@@ -228,8 +228,8 @@ WidestSlots =
 
 -- ---- rows of our own: planes that are whole
 
--- one word 2^31 of four: plane 31 is 1 1 0, plane 30 is 0 0, so they end at bits 3 and 5; a plane without its final test is not counted, and neither is one that
--- loses nothing but zeros
+-- one word 2^31 of four: plane 31 is 1 1 0, plane 30 is 0 0, so they end at bits 3 and 5; a plane without its final test is not counted, and neither is
+-- one that loses nothing but zeros
 abbrev pub PlanesWritten : Type 0
 PlanesWritten =
     let ws : List ℕ = 2 ^ 31 ∷ 0 ∷ 0 ∷ 0 ∷ [] in
@@ -242,7 +242,8 @@ PlanesFound =
     (wholePlanes 4 1 (bits (1 ∷ 0 ∷ 0 ∷ 0 ∷ [])) ≡ 1) × (wholePlanes 4 1 (bits (1 ∷ 0 ∷ 0 ∷ [])) ≡ 0)
     × (wholePlanes 4 2 (bits (replicate 11 1)) ≡ 2) × (wholePlanes 4 2 (bits (replicate 10 1)) ≡ 1)
 
--- "A kind 1 block coded as a single 0 has 0, other exact blocks p": four +0 exact and lossy, and four -0, whose words have a one in the lowest plane when flipped
+-- "A kind 1 block coded as a single 0 has 0, other exact blocks p": four +0 exact and lossy; and four -0, whose flips are -1, 3 in negabinary, with a one
+-- in the lowest plane
 abbrev pub PlanesOfZeros : Type 0
 PlanesOfZeros =
     (storeOutcome (exactFloatsAt 16) (replicate 2 0) 0 (replicate 4 0) .planes ≡ 0)

@@ -1,5 +1,5 @@
 -- What was written whole is read whole: of a block's padded code a reader counts as many planes as its writer, and never more than there are.
-use mathlib.Core.Path.{_≡_, refl, sym, ap, _∙_}
+use mathlib.Core.Path.{_≡_, refl}
 use mathlib.Core.Bool.{Bool, true, false, cond}
 use mathlib.Core.List.{List, [], _∷_, _++_, map, append-assoc}
 use Prim.Native.Nat.{ℕ, suc, _+_, _-_, _^_, _≤_}
@@ -11,7 +11,7 @@ use lib.Seq.{drop-at}
 use Rattle.bits.specs.Stream.{numberBits, numberOf}
 use Rattle.bits.proofs.NumberLaws.{length-numberBits, numberOf-lt}
 use Rattle.words.specs.Word.{flip}
-use Rattle.planes.specs.Coder.{planesCode, planesWithin}
+use Rattle.planes.specs.Coder.{planesCode}
 use Rattle.planes.specs.Reader.{wholePlanes}
 use Rattle.planes.proofs.Whole.{whole-back}
 use Rattle.planes.proofs.Depth.{read-padded, planes-most, planes-read}

@@ -26,7 +26,7 @@ module _ (f : Format) (dim p : ℕ) (d : List Bool) (at end : ℕ) (b : Bool) (f
   one : at < end → slice at end d ≡ b ∷ slice (at + 1) end d
   one h = rw first (slice-here d at end h fits)
 
-  -- what is left after the first bit, and how many planes of it are whole
+  -- the slot's bits from so many on
   abbrev later : ℕ → List Bool
   later n = slice (at + n) end d
 

@@ -28,7 +28,9 @@ length-bytesOf (suc n) bits = ap suc (length-bytesOf n (drop 8 bits))
 
 stored-length : (p : Params) (o : Stored) → slotBytes p ≤ widestBytes → length (storedLine p o) ≤ longestLine
 unfolding storedLine
-stored-length p o h = rw (length-answer (o .answer) (o .count) (o .planes) (cond (eqb (o .answer) 0) (bytesOf (slotBytes p) (o .bits)) [])) (go (eqb (o .answer) 0))
+stored-length p o h =
+    let slot = cond (eqb (o .answer) 0) (bytesOf (slotBytes p) (o .bits)) [] in
+    rw (length-answer (o .answer) (o .count) (o .planes) slot) (go (eqb (o .answer) 0))
   where
     go : (t : Bool) → 9 + 2 * length (cond t (bytesOf (slotBytes p) (o .bits)) []) ≤ longestLine
     go true = omega (arith, length-bytesOf (slotBytes p) (o .bits))

@@ -49,7 +49,8 @@ module _ (N n : ℕ) (bs : List Bool) (e : length bs ≡ N) (hn : n ≤ N) where
   unfolding readPlane
   later k h =
       let left : N - n ≡ length (drop n bs) = omega (arith, length-drop n bs) in
-      rw (drop-at (take n bs) (take k (test (drop n bs))) n first, left) (and-false (leb n (length (take n bs ++ take k (test (drop n bs))))) (test-cut (drop n bs) k h))
+      let bits = take n bs ++ take k (test (drop n bs)) in
+      rw (drop-at (take n bs) (take k (test (drop n bs))) n first, left) (and-false (leb n (length bits)) (test-cut (drop n bs) k h))
 
   pub plane-cut : (b : ℕ) → b < length (planeCode n bs) → readPlane N n (take b (planeCode n bs)) .whole ≡ false
   unfolding planeCode readPlane
@@ -60,12 +61,13 @@ module _ (N n : ℕ) (bs : List Bool) (e : length bs ≡ N) (hn : n ≤ N) where
 
       go : (a : Bool) → leb n b ≡ a → readPlane N n (take b code) .whole ≡ false
       go false t =
-          let short : leb n (length (take b code)) ≡ false = lt-leb n (length (take b code)) (omega (arith, leb-false n b t, length-take-le b code (omega arith))) in
-          rw short
+          let long = length-take-le b code (omega arith) in
+          rw (lt-leb n (length (take b code)) (omega (arith, leb-false n b t, long)))
       go true t =
+          let code₂ = test (drop n bs) in
           let more : b ≡ length (take n bs) + (b - n) = omega (arith, first, leb-true n b t) in
-          let split : take b code ≡ take n bs ++ take (b - n) (test (drop n bs)) = ap (λ (m : ℕ). take m code) more ∙ take-append-add (take n bs) (test (drop n bs)) (b - n) in
-          rw split (later (b - n) (omega (arith, first, length-append (take n bs) (test (drop n bs)), leb-true n b t)))
+          let split = ap (λ (m : ℕ). take m code) more ∙ take-append-add (take n bs) code₂ (b - n) in
+          rw split (later (b - n) (omega (arith, first, length-append (take n bs) code₂, leb-true n b t)))
 
 -- ---- the ends of planes, and how many are within a budget
 
@@ -121,7 +123,8 @@ module _ (ws : List ℕ) where
       go false t ih =
           let short = leb-false l b t in
           let split : take b (planeCode n bs ++ more) ≡ take b (planeCode n bs) = take-append-le b (planeCode n bs) more (omega arith) in
-          rw (split, plane-cut (length ws) n bs wide h b short, lt-leb (at + l) (at + b) (omega arith), past (at + b) (at + l) (planeNext n bs) (planesOf (w - 1) p ws) (omega arith))
+          let none = past (at + b) (at + l) (planeNext n bs) (planesOf (w - 1) p ws) (omega arith) in
+          rw (split, plane-cut (length ws) n bs wide h b short, lt-leb (at + l) (at + b) (omega arith), none)
 
 module _ (w p budget : ℕ) (ws : List ℕ) where
   pub planes-most : planesWithin w p budget ws ≤ p
@@ -152,7 +155,8 @@ module _ (w p budget : ℕ) (ws : List ℕ) where
           let fits = leb-true (length code) budget t in
           rw (take-all budget code fits, all-within fits) (whole-back w p ws (replicate (budget - length code) false) .0)
       go false t =
-          let none : budget - length (take budget code) ≡ 0 = omega (arith, leb-false (length code) budget t, length-take-le budget code (omega (arith, leb-false (length code) budget t))) in
+          let longer = leb-false (length code) budget t in
+          let none : budget - length (take budget code) ≡ 0 = omega (arith, length-take-le budget code (omega arith)) in
           rw (none, append-nil (take budget code)) read-cut
 
 -- a reader never counts more
