@@ -5,12 +5,11 @@ use mathlib.Core.List.{List, [], _∷_, _++_}
 use Prim.Native.Nat.{ℕ, suc, _+_, _-_, _<_}
 use native.Mathlib.Omega.{arith}
 use lib.Dec.{leb}
-use lib.ListN.{length}
 use Rattle.bits.specs.declared.Cursor.{Cursor}
 use Rattle.bits.specs.Stream.{digit}
 use Rattle.bits.specs.Calls.{Written}
 use Rattle.bits.proofs.WriteLaws.{written-none, written-append}
-use Rattle.planes.specs.Coder.{plane, planesOf, planeCode, planeNext, codeFrom, endsFrom, within}
+use Rattle.planes.specs.Coder.{plane, planesOf, planeCode, planeNext, codeFrom, planeEnd, endsFrom, within}
 use Rattle.planes.specs.Calls.{Advanced}
 
 module _ {d : List Bool} {out : Cursor} {limit : ℕ} {code : List Bool} {to : ℕ} where
@@ -41,7 +40,7 @@ planes-more lowest k n ws h r s =
 
 -- a plane counted if its end is within the budget, and then the planes below it
 pub count-more : {at₂ n₂ whole₂ total : ℕ} (lowest k n at budget whole : ℕ) (ws : List ℕ) → lowest < k
-    → at₂ ≡ at + length (planeCode n (plane (k - 1) ws)) → n₂ ≡ planeNext n (plane (k - 1) ws) → whole₂ ≡ whole + digit (leb at₂ budget)
+    → at₂ ≡ planeEnd at n (plane (k - 1) ws) → n₂ ≡ planeNext n (plane (k - 1) ws) → whole₂ ≡ whole + digit (leb at₂ budget)
     → whole + within budget (endsFrom at n (planesOf k (k - lowest) ws)) ≡ total
     → whole₂ + within budget (endsFrom at₂ n₂ (planesOf (k - 1) (k - 1 - lowest) ws)) ≡ total
 count-more {at₂} {n₂} lowest k n at budget whole ws h end next counted all =

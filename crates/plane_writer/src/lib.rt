@@ -145,7 +145,7 @@ fn put_plane(words: &[u64], k: u32, n: usize, buf: &mut [u8], out: Cursor, limit
 
 // 1 for a code of so many bits within the budget, 0 for a longer one.
 fn within(used: usize, budget: usize) -> u32
-    ensures { λ r. ⌜ r ≡ digit (leb used budget) ⌝ }
+    ensures { λ r. ⌜ (r ≡ digit (leb used budget)) × (r ≤ 1) ⌝ }
 {
     (used <= budget) as u32
 }

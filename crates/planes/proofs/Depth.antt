@@ -9,7 +9,7 @@ use lib.Dec.{leb}
 use lib.ListN.{length, take, drop, replicate, length-append, length-drop, length-map}
 use lib.Seq.{length-take-le, take-all, take-append-le, take-append-add, drop-at}
 use Rattle.bits.specs.Stream.{bit}
-use Rattle.planes.specs.Coder.{plane, planesOf, any, answer, scan, test, planeCode, planeNext, codeFrom, planesCode, endsFrom, within, planesWithin}
+use Rattle.planes.specs.Coder.{plane, planesOf, any, answer, scan, test, planeCode, planeNext, codeFrom, planesCode, planeEnd, endsFrom, within, planesWithin}
 use Rattle.planes.specs.Reader.{readTest, readScan, readPlane, readNext, wholeFrom, wholePlanes}
 use Rattle.planes.proofs.Bound.{plane-bound, planesOf-length}
 use Rattle.planes.proofs.RoundTrip.{plane-back, next-back}
@@ -71,22 +71,11 @@ module _ (N n : ℕ) (bs : List Bool) (e : length bs ≡ N) (hn : n ≤ N) where
 
 -- ---- the ends of planes, and how many are within a budget
 
--- never more than there are planes
-pub within-most : (budget at n : ℕ) (pls : List (List Bool)) → within budget (endsFrom at n pls) ≤ length pls
-within-most budget at n [] = omega arith
-within-most budget at n (bs ∷ pls) =
-    let end = at + length (planeCode n bs) in
-    go (leb end budget) (within-most budget end (planeNext n bs) pls)
-  where
-    go : (a : Bool) {m l : ℕ} → m ≤ l → cond a (suc m) m ≤ suc l
-    go true h = omega arith
-    go false h = omega arith
-
 -- no plane ends before the place where the first one starts
 past : (budget at n : ℕ) (pls : List (List Bool)) → budget < at → within budget (endsFrom at n pls) ≡ 0
 past budget at n [] h = refl
 past budget at n (bs ∷ pls) h =
-    let end = at + length (planeCode n bs) in
+    let end = planeEnd at n bs in
     rw (lt-leb end budget (omega arith)) (past budget end (planeNext n bs) pls (omega arith))
 
 -- what the budget leaves of planes, read
@@ -94,13 +83,17 @@ module _ (ws : List ℕ) where
   cut-whole : (w p at n b : ℕ) → n ≤ length ws
       → wholeFrom (length ws) p n (take b (codeFrom n (planesOf w p ws))) ≡ within (at + b) (endsFrom at n (planesOf w p ws))
   cut-whole w zero at n b h = refl
-  cut-whole w (suc p) at n b h = go (leb l b) refl (λ at′ b′. cut-whole (w - 1) p at′ (planeNext n bs) b′ (plane-bound (length ws) n bs wide h .1))
+  cut-whole w (suc p) at n b h =
+      go (leb l b) refl (λ at′ b′. cut-whole (w - 1) p at′ (planeNext n bs) b′ (plane-bound (length ws) n bs wide h .1))
     where
       bs : List Bool
       bs = plane (w - 1) ws
 
       l : ℕ
       l = length (planeCode n bs)
+
+      end : ℕ
+      end = planeEnd at n bs
 
       more : List Bool
       more = codeFrom (planeNext n bs) (planesOf (w - 1) p ws)
@@ -114,22 +107,35 @@ module _ (ws : List ℕ) where
       go true t ih =
           let fits = leb-true l b t in
           let e : b ≡ l + (b - l) = omega arith in
-          let f : at + b ≡ at + l + (b - l) = omega arith in
-          let split : take b (planeCode n bs ++ more) ≡ planeCode n bs ++ take (b - l) more =
-          ap (λ (m : ℕ). take m (planeCode n bs ++ more)) e ∙ take-append-add (planeCode n bs) more (b - l) in
+          let f : at + b ≡ end + (b - l) = omega arith in
           let rest = take (b - l) more in
-          rw (split, plane-back (length ws) n bs rest wide h, next-back (length ws) n bs rest wide h, f, le-leb (at + l) (at + l + (b - l)) (omega arith))
-          (ap suc (ih (at + l) (b - l)))
+          let split : take b (planeCode n bs ++ more) ≡ planeCode n bs ++ rest =
+          ap (λ (m : ℕ). take m (planeCode n bs ++ more)) e ∙ take-append-add (planeCode n bs) more (b - l) in
+          rw (split, plane-back (length ws) n bs rest wide h, next-back (length ws) n bs rest wide h, f, le-leb end (end + (b - l)) (omega arith))
+          (ap suc (ih end (b - l)))
       go false t ih =
           let short = leb-false l b t in
           let split : take b (planeCode n bs ++ more) ≡ take b (planeCode n bs) = take-append-le b (planeCode n bs) more (omega arith) in
-          let none = past (at + b) (at + l) (planeNext n bs) (planesOf (w - 1) p ws) (omega arith) in
-          rw (split, plane-cut (length ws) n bs wide h b short, lt-leb (at + l) (at + b) (omega arith), none)
+          let none = past (at + b) end (planeNext n bs) (planesOf (w - 1) p ws) (omega arith) in
+          rw (split, plane-cut (length ws) n bs wide h b short, lt-leb end (at + b) (omega arith), none)
+
+-- never more than there are planes
+within-most : (budget : ℕ) (ends : List ℕ) → within budget ends ≤ length ends
+within-most budget [] = omega arith
+within-most budget (end ∷ ends) = go (leb end budget) (within-most budget ends)
+  where
+    go : (a : Bool) {m l : ℕ} → m ≤ l → cond a (suc m) m ≤ suc l
+    go true h = omega arith
+    go false h = omega arith
+
+ends-length : (at n : ℕ) (pls : List (List Bool)) → length (endsFrom at n pls) ≡ length pls
+ends-length at n [] = refl
+ends-length at n (bs ∷ pls) = ap suc (ends-length (planeEnd at n bs) (planeNext n bs) pls)
 
 module _ (w p budget : ℕ) (ws : List ℕ) where
   pub planes-most : planesWithin w p budget ws ≤ p
   unfolding planesWithin
-  planes-most = rw planesOf-length at (within-most budget 0 0 (planesOf w p ws))
+  planes-most = rw (ends-length, planesOf-length) at (within-most budget (endsFrom 0 0 (planesOf w p ws)))
 
   -- a code that the budget cuts
   pub read-cut : wholePlanes (length ws) p (take budget (planesCode w p ws)) ≡ planesWithin w p budget ws

@@ -76,12 +76,14 @@ mostBits N p = N * p + N - 1
 
 -- ---- document 02, M-101: "how many planes were written whole, final test included, within the budget"
 
--- where the code of each plane ends, its final test included, if the first plane's starts at a place and has so many first bits
+-- where the code of a plane that starts at a place ends, its final test included
+abbrev pub planeEnd : ℕ → ℕ → List Bool → ℕ
+planeEnd at n bs = at + length (planeCode n bs)
+
+-- the ends of planes one after the other
 abbrev pub endsFrom : ℕ → ℕ → List (List Bool) → List ℕ
 endsFrom at n [] = []
-endsFrom at n (bs ∷ rest) =
-    let end = at + length (planeCode n bs) in
-    end ∷ endsFrom end (planeNext n bs) rest
+endsFrom at n (bs ∷ rest) = planeEnd at n bs ∷ endsFrom (planeEnd at n bs) (planeNext n bs) rest
 
 -- how many of these are within a budget: a plane that the budget cuts is not counted, whatever the bits are that it loses
 abbrev pub within : ℕ → List ℕ → ℕ

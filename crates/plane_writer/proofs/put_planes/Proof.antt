@@ -6,12 +6,10 @@ use mathlib.Core.List.{List}
 use Prim.Native.Nat.{ℕ, _+_, _-_, _*_, _≤_}
 use native.Mathlib.Omega.{arith}
 use borrow.Author.Needs.{needs}
-use lib.Dec.{leb}
 use lib.ListN.{length}
 use Rattle.bits.specs.declared.Cursor.{Cursor}
 use Rattle.bits.specs.Stream.{bitsOf}
 use Rattle.bits.specs.Calls.{Written}
-use Rattle.bits.proofs.NumberLaws.{digit-lt}
 use Rattle.bits.proofs.WriteLaws.{written-none}
 use Rattle.planes.specs.Coder.{planesOf, codeFrom, planesCode, endsFrom, within, planesWithin}
 use Rattle.plane_writer.proofs.Steps.{planes-more, count-more}
@@ -30,16 +28,6 @@ Inv-loop size words p buf₀ out limit budget lowest next₀ n₀ whole₀ k₀ 
 
 abbrev μ-loop : tie.MeasureT-loop
 μ-loop size words p buf₀ out limit budget lowest next₀ n₀ whole₀ k₀ buf next n whole k = k
-
--- the plane that is counted, and that it counts as one at most
-abbrev counting : tie.After-within Inv-loop μ-loop → tie.After-put-plane Inv-loop μ-loop
-counting c = c .before .before .before .before .before .before
-
-one : (c : tie.After-within Inv-loop μ-loop) → c .within .result ≤ 1
-one c =
-    let call = counting c in
-    let a = call .before .before .before .before .before .before .args in
-    omega (arith, c .within .ensures, digit-lt (leb (call .put-plane .result .out .at - a .out .at) (a .budget)))
 
 sub-lowest : tie.Need-sub-lowest Inv-loop μ-loop
 sub-lowest c = search needs
@@ -70,15 +58,15 @@ within-requires c κs = search needs
 
 add-whole : tie.Need-add-whole Inv-loop μ-loop
 add-whole c =
-    let l = counting c .before .before .before .loop in
-    record { fits = omega (arith, one c, l .inv .7) }
+    let l = c .before .before .before .before .before .before .before .before .before .loop in
+    record { fits = omega (arith, c .within .ensures .1, l .inv .7) }
 
 loop-less : tie.Need-loop-less Inv-loop μ-loop
 loop-less c = search needs
 
 loop-again : tie.Need-loop-again Inv-loop μ-loop
 loop-again c =
-    let call = counting c in
+    let call = c .before .before .before .before .before .before in
     let turn = call .before .before in
     let l = turn .before .loop in
     let s = turn .before .before .before .before in
@@ -92,9 +80,9 @@ loop-again c =
       omega (arith, r .written .moved, b, s .pre .1),
       (λ after end w. l .inv .5 after end (planes-more (s .args .size - s .args .p) (l .k) (l .n) ws (turn .loop-test .taken) r w)),
       omega (arith, r .written .moved, l .inv .6),
-      omega (arith, one c, l .inv .7),
+      omega (arith, c .within .ensures .1, l .inv .7),
       count-more (s .args .size - s .args .p) (l .k) (l .n) _ (s .args .budget) (l .whole) ws (turn .loop-test .taken)
-          (omega (arith, r .written .moved, l .inv .6)) (r .moved) (ap (λ (m : ℕ). l .whole + m) (c .within .ensures)) (l .inv .8),
+          (omega (arith, r .written .moved, l .inv .6)) (r .moved) (ap (λ (m : ℕ). l .whole + m) (c .within .ensures .0)) (l .inv .8),
     )
 
 same-length : tie.Need-same-length Inv-loop μ-loop
