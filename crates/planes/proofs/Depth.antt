@@ -9,7 +9,8 @@ use lib.Dec.{leb}
 use lib.ListN.{length, take, drop, replicate, length-append, length-drop, length-map}
 use lib.Seq.{length-take-le, take-all, take-append-le, take-append-add, drop-at}
 use Rattle.bits.specs.Stream.{bit}
-use Rattle.planes.specs.Coder.{plane, planesOf, any, answer, scan, test, planeCode, planeNext, codeFrom, planesCode, planeEnd, endsFrom, within, planesWithin}
+use Rattle.planes.specs.Coder.{plane, planesOf, any, answer, scan, test, planeCode, planeNext, codeFrom, planesCode}
+use Rattle.planes.specs.Coder.{planeEnd, endsFrom, within, planesWithin}
 use Rattle.planes.specs.Reader.{readTest, readScan, readPlane, readNext, wholeFrom, wholePlanes}
 use Rattle.planes.proofs.Bound.{plane-bound, planesOf-length}
 use Rattle.planes.proofs.RoundTrip.{plane-back, next-back}
