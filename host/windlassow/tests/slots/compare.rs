@@ -2,7 +2,7 @@
 
 use crate::common::*;
 use reference::{Params, Reply, bits};
-use windlassow::{MAX_WIDTH, MIN_WIDTH};
+use windlassow::{Done, MAX_WIDTH, MIN_WIDTH};
 
 pub const NO_WORD: u32 = 0xDEAD_BEEF;
 
@@ -87,21 +87,26 @@ pub fn shown_slot(p: &Params, archive: &[u8], slot: usize) -> String {
 }
 
 pub fn compare_counts(p: &Params, archive: &[u8], words: &[u32]) -> [Reply; 2] {
-    let slots = reply(windlassow::slot_count(ours(p), archive));
+    let slots = windlassow::slot_count(ours(p), archive).map(|count| Done { count, planes: 0 });
+    let slots = reply(slots);
     assert_eq!(slots, reference::slot_count(p, archive), "slot count {p:?} of {} bytes", archive.len());
     let bits = reply(windlassow::bit_count(ours(p), words));
     assert_eq!(bits, reference::bit_count(p, words), "bit count {p:?} words {words:x?}");
     [slots, bits]
 }
 
-/// A store, the bit count and the read of what was stored. An exact block must come back.
+/// A store, the bit count and the read of what was stored. An exact block must come back, and all three have the same planes.
 pub fn compare_all(p: &Params, archive: &[u8], slot: usize, words: &[u32]) -> Reply {
     let (stored, after) = compare_store(p, archive, slot, words);
     let [_, counted] = compare_counts(p, archive, words);
     if stored.answer == 0 || stored.answer == 10 {
         assert_eq!(counted.count, stored.count, "bit count and store differ: {p:?} {words:x?}");
     }
-    let (_, back) = compare_read(p, &after, slot, words.len());
+    let (given, back) = compare_read(p, &after, slot, words.len());
+    if stored.answer == 0 {
+        assert_eq!(counted.planes, stored.planes, "planes of bit count and store differ: {p:?} {words:x?}");
+        assert_eq!(given.planes, stored.planes, "planes of read and store differ: {p:?} {words:x?}");
+    }
     if p.mode == EXACT && stored.answer == 0 {
         assert_eq!(back, words, "an exact block came back otherwise: {p:?}");
     }
