@@ -8,6 +8,7 @@ use crate::order::{Reordered, reordered};
 use crate::tally::{Origin, Tally};
 use reference::params::{Checked, Kind, Mode};
 use reference::{Params, Reply};
+use windlassow::Done;
 
 /// What both have written for a block.
 pub struct Written {
@@ -46,10 +47,10 @@ pub struct Comparison {
 }
 
 /// The outcome of a call of the proved library in the shape of the reference's.
-fn reply(outcome: Result<usize, windlassow::Refusal>) -> Reply {
+fn reply(outcome: Result<Done, windlassow::Refusal>) -> Reply {
     match outcome {
-        Ok(count) => Reply { answer: 0, count: count as u32 },
-        Err(refusal) => Reply { answer: refusal.number(), count: refusal.needed().unwrap_or(0) as u32 },
+        Ok(Done { count, planes }) => Reply::done(count, planes),
+        Err(refusal) => Reply::needs(refusal.number(), refusal.needed().unwrap_or(0)),
     }
 }
 
@@ -106,8 +107,8 @@ impl Comparison {
         let reply = reply(windlassow::store(ours(p), &mut archive, 0, words));
         let agreed = reply == reference::store(p, &mut expected, 0, words) && archive == expected;
         self.must(agreed, "the reference stores otherwise", p, || hex_words(words));
-        let counted = windlassow::bit_count(ours(p), words).unwrap_or(0);
-        self.must(counted == reply.count as usize, "store and bit count differ", p, || hex_words(words));
+        let counted = self.counted(p, words, reply);
+        self.must(counted, "store and bit count differ", p, || hex_words(words));
         let theirs = self.lib.encode(shape(&c), setting(&c), words);
         let foretold = written(&c, words, Some(self.lib.orders(c.dimension))).holds(&theirs);
         self.must(foretold, "libzfp's code is not the one expected", p, || hex_words(words));
@@ -120,6 +121,12 @@ impl Comparison {
         row.counts_equal += u64::from(reply.answer != 9 && reply.count as usize == theirs.len());
         row.note(Call::Write, class);
         Written { reply, ours: slot, theirs, class }
+    }
+
+    /// Whether the bit count gives what the store gave. Where that is refused as too long, it gives the bits.
+    fn counted(&self, p: &Params, words: &[u32], stored: Reply) -> bool {
+        let counted = reply(windlassow::bit_count(ours(p), words));
+        if stored.answer == 10 { counted.count == stored.count } else { counted == stored }
     }
 
     /// libzfp told to fill the slot, or to keep to it, writes the same code with zeros after it, or cut.
