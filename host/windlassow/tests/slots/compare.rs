@@ -1,6 +1,7 @@
 //! Both calls on the same input, and what must hold of their outcome.
 
 use crate::common::*;
+use crate::cuts::{planes_of, slot_bits};
 use reference::{Params, Reply, bits};
 use windlassow::{Done, MAX_WIDTH, MIN_WIDTH};
 
@@ -34,7 +35,8 @@ pub fn ours(p: &Params) -> windlassow::Params {
 }
 
 /// Stores with both, compares the whole of the archives, and looks at the rules that need no comparison: a
-/// refused store changes nothing, a done one only its own slot. Gives the reply and the archive after it.
+/// refused store changes nothing, a done one only its own slot, and the planes can be told from the slot. Gives the reply
+/// and the archive after it.
 pub fn compare_store(p: &Params, archive: &[u8], slot: usize, words: &[u32]) -> (Reply, Vec<u8>) {
     let mut expected = archive.to_vec();
     let reply_expected = reference::store(p, &mut expected, slot, words);
@@ -48,6 +50,7 @@ pub fn compare_store(p: &Params, archive: &[u8], slot: usize, words: &[u32]) -> 
         assert!(buffer.is_unchanged(), "a refused store changed the archive");
     } else {
         only_the_slot_changed(archive, &buffer, slot * width_of(p), width_of(p));
+        assert_eq!(given.planes, planes_of(p, &slot_bits(p, &buffer, slot)), "planes {p:?} words {words:x?}");
     }
     (given, expected)
 }
@@ -64,7 +67,7 @@ pub fn only_the_slot_changed(before: &[u8], after: &[u8], start: usize, width: u
     assert!(before[end.div_ceil(8)..] == after[end.div_ceil(8)..]);
 }
 
-/// Reads with both into buffers of that length, compares reply and words.
+/// Reads with both into buffers of that length, compares reply and words. The planes can be told from the slot.
 pub fn compare_read(p: &Params, archive: &[u8], slot: usize, len: usize) -> (Reply, Vec<u32>) {
     let mut expected = vec![NO_WORD; len];
     let reply_expected = reference::read(p, archive, slot, &mut expected);
@@ -74,6 +77,10 @@ pub fn compare_read(p: &Params, archive: &[u8], slot: usize, len: usize) -> (Rep
     assert_eq!(given, reply_expected, "read {p:?} slot {slot} {}", shown_slot(p, archive, slot));
     assert!(*buffer == *expected, "words of read {p:?} slot {slot} {}", shown_slot(p, archive, slot));
     assert!(buffer.is_intact() && lent.is_unchanged());
+    if given.answer == 0 {
+        let shown = || shown_slot(p, archive, slot);
+        assert_eq!(given.planes, planes_of(p, &slot_bits(p, archive, slot)), "planes {p:?} {}", shown());
+    }
     (given, expected)
 }
 

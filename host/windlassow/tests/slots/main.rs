@@ -5,8 +5,10 @@ mod by_hand;
 #[path = "../common/mod.rs"]
 mod common;
 mod compare;
+mod cuts;
 mod damage;
 mod make;
+mod planes;
 mod refusals;
 
 /// Document 01's own cases, on the library alone.
