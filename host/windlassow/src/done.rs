@@ -26,8 +26,9 @@ pub struct Done {
     /// Of [`store`](crate::store) and [`bit_count`](crate::bit_count) the bits of the block's code, of
     /// [`read`](crate::read) the words of a block.
     pub count: usize,
-    /// The bit planes, from the highest down, that are whole: written whole within the slot by a store, as it would be for
-    /// a bit count, or there whole for a read. A plane that the end of the slot cuts is not counted, even if only zeros are lost.
-    /// In exact mode nothing is cut, and these are all planes of the code. Floats that are all zero have no planes: 0.
+    /// The bit planes that are whole, from the highest down: of a store those written whole within the slot, of a bit count
+    /// those that a store would write so, of a read those that could be read whole. A plane that the end of the slot cuts is
+    /// not counted, even if only zeros are lost. In exact mode nothing is cut, and these are all planes of the code, whatever
+    /// the width. Floats that are all zero are coded without planes: 0.
     pub planes: u32,
 }

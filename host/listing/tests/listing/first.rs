@@ -13,6 +13,17 @@ fn document_01s_example() {
     lists(input.as_bytes(), "000027201f0000003000\n0a008800\n");
 }
 
+/// Lossy integers in slots of 32 bits. 1 2 3 4 has 29 planes of a bit each and then 110, which ends there: 30 planes. 0 0 0 16
+/// has 28 and then 1011.., which is cut: 28 planes. Document 02's own lines are in the example above.
+#[test]
+fn the_planes_stand_after_the_count() {
+    let input = "000100200020\n00000001000000020000000300000004\n00000000000000000000000000000010\n0\n";
+    lists(input.as_bytes(), "0000201e00000060\n0000201c000000d0\n0c000000\n");
+    // Four times 1.0 in 16 bits: 1 00000001, then 0, 110 and 10, and a bit of the fourth plane; zeros; an infinity.
+    let floats = ["3f800000".repeat(4), "80000000".repeat(4), "7f800000".repeat(4)].join("\n");
+    lists(format!("010100200010\n{floats}\n").as_bytes(), "00001003012d\n000001000000\n09000000\n");
+}
+
 #[test]
 fn no_lines_and_only_a_first_line() {
     lists(b"", "0c000000\n");
