@@ -37,6 +37,13 @@
  *
  *   Answers 1 to 11, 20 and 21 leave every buffer as it was.
  *   Answers 22 and 23 leave the output as it was and both tables zero.
+ *   Refusals report 0 planes, answer 10 too. The planes of a done call are with each call.
+ *
+ * Planes
+ *   A slot call also says how many bit planes are whole, from the highest down. Of a lossy record
+ *   that is how much of it survived. A plane is whole if all of its code ends within the slot. One
+ *   that the slot's end cuts is not counted, even if only zeros are lost. An exact block has all
+ *   planes of its code, and floats that are coded as a single 0 have 0. FPC streams have no planes.
  *
  * Parameters of the slot calls
  *   kind       0: two's complement integers of 32 bits; 1: IEEE 754 binary32 patterns
@@ -136,8 +143,19 @@ enum { WINDLASSOW_STACK_BYTES = 80 * 1024 };
 /* Room for the stream of any run of n doubles, in bytes. */
 #define WINDLASSOW_STREAM_ROOM(n) (17 * (((n) + 1) / 2))
 
-/* What every call returns: the answer number and its count. */
+/*
+ * What a slot call returns: the answer number, its count and the planes.
+ * It grew with this version, from 8 bytes to 12, and the FPC calls now return a struct of their own. So
+ * every caller must be compiled again with this header.
+ */
 struct windlassow_reply {
+    uint32_t answer;
+    uint32_t count;
+    uint32_t planes;
+};
+
+/* What an FPC call returns: the answer number and its count. */
+struct windlassow_fpc_reply {
     uint32_t answer;
     uint32_t count;
 };
@@ -145,6 +163,7 @@ struct windlassow_reply {
 /*
  * Stores a block in a slot. Only that slot's bits change.
  * Answers 0 to 10. Count when done: the bits of the block's code; the rest of the slot is zero.
+ * Planes when done: those written whole within the slot.
  */
 struct windlassow_reply windlassow_store(
     uint32_t kind, uint32_t dimension, uint32_t mode, uint32_t planes, uint32_t width,
@@ -153,8 +172,9 @@ struct windlassow_reply windlassow_store(
 
 /*
  * Reads a slot into the words.
- * Answers 0 to 8 and 11. Count when done: the words of a block. A lossy read takes any slot, and
- * 11 is no detector of damage: see above.
+ * Answers 0 to 8 and 11. Count when done: the words of a block. Planes when done: those that could
+ * be read whole, which for a slot that a store has written are the planes of the store. A lossy read
+ * takes any slot, and 11 is no detector of damage: see above.
  */
 struct windlassow_reply windlassow_read(
     uint32_t kind, uint32_t dimension, uint32_t mode, uint32_t planes, uint32_t width,
@@ -163,7 +183,7 @@ struct windlassow_reply windlassow_read(
 
 /*
  * Counts the slots of an archive.
- * Answers 0 to 6. Count when done: the number of slots.
+ * Answers 0 to 6. Count when done: the number of slots. Planes: 0.
  */
 struct windlassow_reply windlassow_slot_count(
     uint32_t kind, uint32_t dimension, uint32_t mode, uint32_t planes, uint32_t width,
@@ -172,6 +192,7 @@ struct windlassow_reply windlassow_slot_count(
 /*
  * Counts the bits of a block's code.
  * Answers 0 to 5, 8 and 9. Count when done: the bits; exact mode takes no notice of a good width.
+ * Planes when done: those that a store would write whole, in exact mode all of the code's.
  */
 struct windlassow_reply windlassow_bit_count(
     uint32_t kind, uint32_t dimension, uint32_t mode, uint32_t planes, uint32_t width,
@@ -184,7 +205,7 @@ struct windlassow_reply windlassow_bit_count(
  * and the tables stand as after the last double.
  * The stream of n doubles is never longer than 17 bytes for each begun pair.
  */
-struct windlassow_reply windlassow_fpc_write(
+struct windlassow_fpc_reply windlassow_fpc_write(
     uint64_t *f, size_t f_len, uint64_t *d, size_t d_len,
     const uint64_t *doubles, size_t doubles_len, uint8_t *out, size_t out_len);
 
@@ -193,7 +214,7 @@ struct windlassow_reply windlassow_fpc_write(
  * Answers 0 and 20 to 23. Count when done: the doubles read; the buffer past them is as it was,
  * and the tables stand as after the last double.
  */
-struct windlassow_reply windlassow_fpc_read(
+struct windlassow_fpc_reply windlassow_fpc_read(
     uint64_t *f, size_t f_len, uint64_t *d, size_t d_len,
     const uint8_t *stream, size_t stream_len, uint64_t *doubles, size_t doubles_len);
 

@@ -39,6 +39,10 @@ IS(WINDLASSOW_MAX_TABLE_LEN, 1024);
 IS(WINDLASSOW_MAX_RUN_LEN, 4096);
 IS(WINDLASSOW_MAX_STREAM_LEN, 65536);
 
+/* A slot call returns three numbers, an FPC call two. */
+typedef char reply_size[sizeof(struct windlassow_reply) == 12 ? 1 : -1];
+typedef char fpc_reply_size[sizeof(struct windlassow_fpc_reply) == 8 ? 1 : -1];
+
 /* The Rust interface has the same, and is asked for it where this is compiled. */
 IS(WINDLASSOW_STACK_BYTES, RUST_STACK_BYTES);
 

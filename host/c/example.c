@@ -9,6 +9,10 @@
 enum { KIND = WINDLASSOW_KIND_INTEGERS, MODE = WINDLASSOW_MODE_EXACT, PLANES = WINDLASSOW_MAX_PLANES, WIDTH = 48 };
 
 static void print(const char *call, struct windlassow_reply r) {
+    printf("%s: answer %u, count %u, planes %u\n", call, (unsigned)r.answer, (unsigned)r.count, (unsigned)r.planes);
+}
+
+static void print_fpc(const char *call, struct windlassow_fpc_reply r) {
     printf("%s: answer %u, count %u\n", call, (unsigned)r.answer, (unsigned)r.count);
 }
 
@@ -35,6 +39,19 @@ static void slots(void) {
     print("read", windlassow_read(KIND, 1, MODE, PLANES, WIDTH, archive, 0, 0, back, 4));
 }
 
+/* Four readings cut to a slot of 40 bits: the planes say how deep the record got. */
+static void lossy(void) {
+    enum { LOSSY = WINDLASSOW_MODE_LOSSY, NARROW = 40 };
+    uint8_t archive[NARROW / 8];
+    const uint32_t readings[4] = {2000, 2004, 2008, 2012};
+    uint32_t back[4];
+    struct windlassow_reply r = windlassow_store(KIND, 1, LOSSY, PLANES, NARROW, archive, sizeof archive, 0, readings, 4);
+    print("store", r);
+    printf("%u of %d planes are whole\n", (unsigned)r.planes, PLANES);
+    print("read", windlassow_read(KIND, 1, LOSSY, PLANES, NARROW, archive, sizeof archive, 0, back, 4));
+    printf("%d %d %d %d\n", (int)back[0], (int)back[1], (int)back[2], (int)back[3]);
+}
+
 /* Four cubes in sequence, all of one reading, in a slot that every such block fits. */
 static void cubes(void) {
     enum { N = WINDLASSOW_BLOCK_LEN(4), W = WINDLASSOW_EXACT_INTEGERS_WIDTH(N) };
@@ -54,18 +71,19 @@ static void fpc(void) {
     uint8_t out[WINDLASSOW_STREAM_ROOM(2)];
     memset(f, 0xff, sizeof f);
     memset(d, 0xff, sizeof d);
-    struct windlassow_reply wrote = windlassow_fpc_write(f, 16, d, 16, run, 2, out, sizeof out);
-    print("fpc_write", wrote);
+    struct windlassow_fpc_reply wrote = windlassow_fpc_write(f, 16, d, 16, run, 2, out, sizeof out);
+    print_fpc("fpc_write", wrote);
     bytes(out, wrote.count);
-    print("fpc_read", windlassow_fpc_read(f, 16, d, 16, out, wrote.count, back, 2));
+    print_fpc("fpc_read", windlassow_fpc_read(f, 16, d, 16, out, wrote.count, back, 2));
     printf("%d\n", memcmp(run, back, sizeof run) == 0);
-    print("fpc_read", windlassow_fpc_read(f, 16, d, 16, bad, sizeof bad, back, 2));
-    print("fpc_write", windlassow_fpc_write(f, 16, d, 16, run, 2, out, 8));
-    print("fpc_write", windlassow_fpc_write(f, 16, d, 8, run, 2, out, 8));
+    print_fpc("fpc_read", windlassow_fpc_read(f, 16, d, 16, bad, sizeof bad, back, 2));
+    print_fpc("fpc_write", windlassow_fpc_write(f, 16, d, 16, run, 2, out, 8));
+    print_fpc("fpc_write", windlassow_fpc_write(f, 16, d, 8, run, 2, out, 8));
 }
 
 int main(void) {
     slots();
+    lossy();
     cubes();
     fpc();
     return 0;

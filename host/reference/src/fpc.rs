@@ -1,6 +1,6 @@
 //! "FPC stream": the predictors, the writer and the reader.
 
-use crate::reply::Reply;
+use crate::reply::FpcReply;
 
 /// "FPC input above 4,096 doubles (writing)"
 pub const MOST_DOUBLES: usize = 4_096;
@@ -145,30 +145,30 @@ pub fn run_of(size: usize, stream: &[u8]) -> Option<(Vec<u64>, Predictors)> {
 }
 
 /// Writes the stream of a run: rows 20, 21, 22. Done returns its bytes.
-pub fn fpc_write(f: &mut [u64], d: &mut [u64], doubles: &[u64], out: &mut [u8]) -> Reply {
+pub fn fpc_write(f: &mut [u64], d: &mut [u64], doubles: &[u64], out: &mut [u8]) -> FpcReply {
     if !good_tables(f, d) {
-        return Reply::refused(20);
+        return FpcReply::refused(20);
     }
     if doubles.len() > MOST_DOUBLES {
-        return Reply::refused(21);
+        return FpcReply::refused(21);
     }
     let (stream, predictors) = stream_of(f.len(), doubles);
     finish(f, d, &predictors, &stream, out)
 }
 
 /// Reads the run of a stream: rows 20, 21, 23, 22. Done returns its doubles.
-pub fn fpc_read(f: &mut [u64], d: &mut [u64], stream: &[u8], doubles: &mut [u64]) -> Reply {
+pub fn fpc_read(f: &mut [u64], d: &mut [u64], stream: &[u8], doubles: &mut [u64]) -> FpcReply {
     if !good_tables(f, d) {
-        return Reply::refused(20);
+        return FpcReply::refused(20);
     }
     if stream.len() > MOST_BYTES {
-        return Reply::refused(21);
+        return FpcReply::refused(21);
     }
     match run_of(f.len(), stream) {
         Some((run, predictors)) => finish(f, d, &predictors, &run, doubles),
         None => {
             zero(f, d);
-            Reply::refused(23)
+            FpcReply::refused(23)
         }
     }
 }
@@ -187,15 +187,15 @@ fn finish<T: Copy>(
     predictors: &Predictors,
     result: &[T],
     out: &mut [T],
-) -> Reply {
+) -> FpcReply {
     if result.len() > out.len() {
         zero(f, d);
-        return Reply::needs(22, result.len());
+        return FpcReply::needs(22, result.len());
     }
     out[..result.len()].copy_from_slice(result);
     f.copy_from_slice(&predictors.f);
     d.copy_from_slice(&predictors.d);
-    Reply::done(result.len())
+    FpcReply::done(result.len())
 }
 
 /// "22 and 23 leave the output unchanged and both tables zero."

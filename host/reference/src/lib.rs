@@ -3,7 +3,7 @@
 //! It was written from the papers alone, apart from the proved one, so that a comparison of the two says
 //! something. It is written for clarity: bits are lists of `bool`, a slot is decoded and coded again to see
 //! whether it is a code, a stream likewise. Every module quotes the sentences that it follows: of document 01, and
-//! of request M-100 where it speaks of dimensions 3 and 4.
+//! of the requests M-100, where it speaks of dimensions 3 and 4, and M-101, where it speaks of planes written whole.
 //!
 //! The calls are [`store`], [`read`], [`slot_count`], [`bit_count`], [`fpc_write`], [`fpc_read`] and, for the
 //! listing program, [`listing()`]. The modules hold the pieces.
@@ -24,5 +24,5 @@ pub mod words;
 pub use fpc::{fpc_read, fpc_write};
 pub use listing::listing;
 pub use params::Params;
-pub use reply::Reply;
+pub use reply::{FpcReply, Reply};
 pub use slots::{bit_count, read, slot_count, store};

@@ -12,7 +12,7 @@ fn one_coefficient() {
         for (number, place) in by_hand::order(dimension) {
             let code = by_hand::single_code(dimension, number);
             let (reply, slot) = stored(&p, &by_hand::single(dimension, place));
-            assert_eq!(reply, done(bits(&code).len() as u32), "dimension {dimension}, place {place}");
+            assert_eq!(reply, done(bits(&code).len() as u32, 32), "dimension {dimension}, place {place}");
             starts_with(&slot, &code);
         }
     }
@@ -25,7 +25,7 @@ fn one_word() {
         block[0] = 1;
         let code = by_hand::first_word_code(dimension);
         let (reply, slot) = stored(&params(INTEGERS, dimension, EXACT, 32, 1024), &block);
-        assert_eq!(reply, done(bits(&code).len() as u32));
+        assert_eq!(reply, done(bits(&code).len() as u32, 32));
         starts_with(&slot, &code);
     }
 }
@@ -36,13 +36,13 @@ fn equal_floats() {
     for dimension in 1..=4 {
         let p = params(FLOATS, dimension, EXACT, 32, 64);
         let code = |word: u32| stored(&p, &vec![word; 4usize.pow(dimension)]);
-        for (word, text) in [
-            (0, "0".to_string()),
-            (0x3F80_0000, "10 00000001 01000 0 110 10".to_string()),
-            (0x8000_0000, format!("11 11111 {} 110 10", "0".repeat(30))),
+        for (word, text, planes) in [
+            (0, "0".to_string(), 0),
+            (0x3F80_0000, "10 00000001 01000 0 110 10".to_string(), 3),
+            (0x8000_0000, format!("11 11111 {} 110 10", "0".repeat(30)), 32),
         ] {
             let (reply, slot) = code(word);
-            assert_eq!(reply, done(bits(&text).len() as u32));
+            assert_eq!(reply, done(bits(&text).len() as u32, planes));
             starts_with(&slot, &text);
         }
     }
@@ -55,13 +55,13 @@ fn the_longest_integer_block() {
         let block = by_hand::longest(dimension);
         let p = params(INTEGERS, dimension, EXACT, 32, needed);
         let (reply, slot) = stored(&p, &block);
-        assert_eq!(reply, done(needed));
+        assert_eq!(reply, done(needed, 32));
         assert!(!slot.contains(&false));
         let narrow = Params { width: needed - 1, ..p };
         let (reply, slot) = stored(&narrow, &block);
-        assert_eq!((reply.answer, reply.count), (10, needed));
+        assert_eq!(reply, too_long(needed));
         assert!(!slot.contains(&true));
-        assert_eq!(bit_count(&narrow, &block), done(needed));
+        assert_eq!(bit_count(&narrow, &block), done(needed, 32));
     }
 }
 
@@ -75,7 +75,7 @@ fn width_0_is_8n() {
             assert_eq!(stored(&zero, &words), stored(&named, &words));
             assert_eq!(bit_count(&zero, &words), bit_count(&named, &words));
             // A slot is N bytes: a byte short of three are two.
-            assert_eq!(slot_count(&zero, &vec![0; 3 * n - 1]), done(2));
+            assert_eq!(slot_count(&zero, &vec![0; 3 * n - 1]), done(2, 0));
         }
     }
 }
@@ -88,7 +88,7 @@ fn axis_by_axis_from_i_on() {
             let p = params(INTEGERS, dimension, LOSSY, 32, 64);
             let code = by_hand::axes_code(axis);
             let (reply, slot) = stored(&p, &by_hand::axes_block(dimension, axis));
-            assert_eq!(reply, done(bits(&code).len() as u32), "dimension {dimension}, axis {axis}");
+            assert_eq!(reply, done(bits(&code).len() as u32, 32), "dimension {dimension}, axis {axis}");
             starts_with(&slot, &code);
         }
     }
@@ -102,7 +102,7 @@ fn read_in_reverse() {
             let (code, block) = by_hand::axes_slot(dimension, axis);
             let mut words = vec![9; block.len()];
             let reply = read(&p, &bytes_of(&bits(&code), 8), 0, &mut words);
-            assert_eq!(reply, done(block.len() as u32));
+            assert_eq!(reply, done(block.len() as u32, 32));
             let words: Vec<i32> = words.into_iter().map(|word| word as i32).collect();
             assert_eq!(words, block, "dimension {dimension}, axis {axis}");
         }

@@ -27,25 +27,25 @@ fn bad_first_lines() {
         " 00101200030\n",
         "0201012000300000\n",
     ] {
-        lists(input.as_bytes(), "0c0000\n");
+        lists(input.as_bytes(), "0c000000\n");
     }
-    lists(b"0001012\x000030\n", "0c0000\n");
+    lists(b"0001012\x000030\n", "0c000000\n");
     // Nothing is listed after a bad first line.
-    lists(("\n".to_string() + FIRST + ONES).as_bytes(), "0c0000\n");
+    lists(("\n".to_string() + FIRST + ONES).as_bytes(), "0c000000\n");
 }
 
 #[test]
 fn refused_first_lines_stop_the_program() {
     for (first, output) in [
-        ("020000000001\n", "010000\n"),
-        ("010500000001\n", "020000\n"),
-        ("000102000001\n", "030000\n"),
-        ("000101000001\n", "040000\n"),
-        ("000100210030\n", "040000\n"),
-        ("000101200001\n", "050000\n"),
-        ("00010120000f\n", "050000\n"),
-        ("00010120210f\n", "050000\n"),
-        ("ffffffffffff\n", "010000\n"),
+        ("020000000001\n", "01000000\n"),
+        ("010500000001\n", "02000000\n"),
+        ("000102000001\n", "03000000\n"),
+        ("000101000001\n", "04000000\n"),
+        ("000100210030\n", "04000000\n"),
+        ("000101200001\n", "05000000\n"),
+        ("00010120000f\n", "05000000\n"),
+        ("00010120210f\n", "05000000\n"),
+        ("ffffffffffff\n", "01000000\n"),
     ] {
         lists((first.to_string() + ONES).as_bytes(), output);
     }
@@ -58,7 +58,7 @@ fn no_blocks_no_lines() {
 
 #[test]
 fn bad_block_lines_and_the_next_is_read() {
-    let good = "0000271f0000003000\n";
+    let good = "000027201f0000003000\n";
     for bad in [
         "\n",
         "0000000100000001000000010000000\n",
@@ -67,15 +67,15 @@ fn bad_block_lines_and_the_next_is_read() {
         "00000001 0000000100000001000000\n",
         "00000001000000010000000100000001\r\n",
     ] {
-        lists(&after_first((bad.to_string() + ONES).as_bytes()), &format!("0c0000\n{good}"));
+        lists(&after_first((bad.to_string() + ONES).as_bytes()), &format!("0c000000\n{good}"));
     }
     // The length of another dimension is ill-formed too.
     for digits in [128, 512, 2_048] {
-        lists(&after_first(("0".repeat(digits) + "\n").as_bytes()), "0c0000\n");
+        lists(&after_first(("0".repeat(digits) + "\n").as_bytes()), "0c000000\n");
     }
     // A last line without its newline.
-    lists(&after_first(ONES.trim_end().as_bytes()), "0c0000\n");
-    lists(&after_first((ONES.to_string() + "0").as_bytes()), &format!("{good}0c0000\n"));
+    lists(&after_first(ONES.trim_end().as_bytes()), "0c000000\n");
+    lists(&after_first((ONES.to_string() + "0").as_bytes()), &format!("{good}0c000000\n"));
 }
 
 /// Zeros in every dimension: six bits of code in a slot of 16. A digit less or more is ill-formed.
@@ -83,7 +83,7 @@ fn bad_block_lines_and_the_next_is_read() {
 fn lines_of_every_dimension() {
     for (dimension, digits) in [(1, 32), (2, 128), (3, 512), (4, 2_048)] {
         let lines = [digits - 1, digits, digits + 1].map(|count| "0".repeat(count) + "\n").concat();
-        lists(format!("000{dimension}01200010\n{lines}").as_bytes(), "0c0000\n0000060000\n0c0000\n");
+        lists(format!("000{dimension}01200010\n{lines}").as_bytes(), "0c000000\n000006010000\n0c000000\n");
     }
 }
 
@@ -92,14 +92,14 @@ fn widths_that_are_no_whole_bytes() {
     // W = 0x11: three bytes, of which seven bits are spare.
     let input = "000100200011\nffffffffffffffffffffffffffffffff\n";
     let output = String::from_utf8(listing(input.as_bytes())).unwrap();
-    assert_eq!(output.len(), 2 + 4 + 6 + 1);
+    assert_eq!(output.len(), 2 + 4 + 2 + 6 + 1);
     assert!(output.ends_with("00\n") || output.ends_with("01\n"));
     // W = 0 stands for 8N: four bytes.
-    lists(b"000101200000\n00000000000000000000000000000000\n", "00000600000000\n");
+    lists(b"000101200000\n00000000000000000000000000000000\n", "0000060100000000\n");
 }
 
 #[test]
 fn lossy_floats_and_row_9() {
     let input = "01010020003f\n7f800000000000000000000000000000\n00000000800000000000000000000000\n";
-    lists(input.as_bytes(), "090000\n0000010000000000000000\n");
+    lists(input.as_bytes(), "09000000\n000001000000000000000000\n");
 }

@@ -69,7 +69,7 @@ fn planes_come_back_and_meet_the_bound() {
                 let code = planes::code(&block, p);
                 assert!(code.len() < n * p as usize + n);
                 let kept: Vec<u32> = block.iter().map(|word| word & !(u32::MAX as u64 >> p) as u32).collect();
-                assert_eq!(planes::read::<u32>(&code, n, p), kept);
+                assert_eq!(planes::read::<u32>(&code, n, p), (kept, p));
             }
             let full = vec![u32::MAX; n];
             assert_eq!(planes::code(&full, p).len(), n * p as usize + n - 1);
@@ -84,7 +84,7 @@ fn planes_of_64_bit_words() {
         let code = planes::code(&block, p);
         assert!(code.len() < 4 * p as usize + 4);
         let kept = block.map(|word| if p == 64 { word } else { word & !(u64::MAX >> p) });
-        assert_eq!(planes::read::<u64>(&code, 4, p), kept);
+        assert_eq!(planes::read::<u64>(&code, 4, p), (kept.to_vec(), p));
     }
 }
 
@@ -95,8 +95,8 @@ fn reading_a_cut_code_never_sets_other_bits() {
         let block: Vec<u32> = (0..16).map(|_| random.word() >> random.below(32)).collect();
         let code = planes::code(&block, 32);
         for budget in 0..=code.len() {
-            let cut = planes::code_within(&block, 32, budget);
-            let read = planes::read::<u32>(&cut, 16, 32);
+            let cut = planes::code_within(&block, 32, budget).bits;
+            let (read, _) = planes::read::<u32>(&cut, 16, 32);
             assert!(read.iter().zip(&block).all(|(r, b)| r & !b == 0));
         }
     }

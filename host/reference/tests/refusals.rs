@@ -123,8 +123,8 @@ fn row_10_returns_the_bits_it_needs() {
     let words = [0xaaaaaaab, 0x55555556, 0xaaaaaaac, 0x55555558];
     for width in [0, 16, 135] {
         let p = Params { width, ..GOOD };
-        store_refused(&p, 34, 0, &words, Reply { answer: 10, count: 136 });
-        assert_eq!(bit_count(&p, &words), done(136));
+        store_refused(&p, 34, 0, &words, too_long(136));
+        assert_eq!(bit_count(&p, &words), done(136, 32));
     }
 }
 
@@ -133,25 +133,26 @@ fn row_11_exact_slots_that_are_no_code() {
     read_refused(&GOOD, &[0xFF, 0xFF, 0xFF], 0, 4, refused(7));
     // All ones is P3's code at 136 bits and no code at 144.
     let mut words = [0; 4];
-    assert_eq!(read(&GOOD, &[0xFF; 17], 0, &mut words), done(4));
+    assert_eq!(read(&GOOD, &[0xFF; 17], 0, &mut words), done(4, 32));
     read_refused(&Params { width: 144, ..GOOD }, &[0xFF; 18], 0, 4, refused(11));
 }
 
 #[test]
 fn one_bit_in_the_padding_gives_11() {
-    let blocks: [(u32, [u32; 4]); 5] = [
-        (INTEGERS, [0; 4]),
-        (INTEGERS, [1, 2, 3, 4]),
-        (FLOATS, [0; 4]),
-        (FLOATS, [0x3F80_0000; 4]),
-        (FLOATS, [NAN, 0, 0, 0x8000_0000]),
+    // With the planes p. The last difference of the last block is odd, so that all planes are needed.
+    let blocks: [(u32, [u32; 4], u32); 5] = [
+        (INTEGERS, [0; 4], 1),
+        (INTEGERS, [1, 2, 3, 4], 32),
+        (FLOATS, [0; 4], 0),
+        (FLOATS, [0x3F80_0000; 4], 3),
+        (FLOATS, [NAN, 0, 0, 0x8000_0000], 32),
     ];
-    for (kind, block) in blocks {
+    for (kind, block, planes) in blocks {
         let p = params(kind, 1, EXACT, 32, 150);
         let mut archive = [0; 19];
         let code = store(&p, &mut archive, 0, &block).count as usize;
         let mut words = [0; 4];
-        assert_eq!(read(&p, &archive, 0, &mut words), done(4));
+        assert_eq!(read(&p, &archive, 0, &mut words), done(4, planes));
         assert_eq!(words, block);
         for t in code..150 {
             let mut damaged = archive;
@@ -160,7 +161,7 @@ fn one_bit_in_the_padding_gives_11() {
         }
         // Bits past the last slot are no part of it.
         archive[18] |= 0xC0;
-        assert_eq!(read(&p, &archive, 0, &mut words), done(4));
+        assert_eq!(read(&p, &archive, 0, &mut words), done(4, planes));
     }
 }
 
@@ -172,8 +173,8 @@ fn float_slot(text: &str) -> Reply {
 #[test]
 fn heads_that_no_block_has_give_11() {
     // Four times 1.0 as it is stored: the integers are 2^29. Another e makes it four times 2.0.
-    assert_eq!(float_slot("10 00000001 01000 0 110 10"), done(4));
-    assert_eq!(float_slot("10 10000001 01000 0 110 10"), done(4));
+    assert_eq!(float_slot("10 00000001 01000 0 110 10"), done(4, 3));
+    assert_eq!(float_slot("10 10000001 01000 0 110 10"), done(4, 3));
     // A plane too many.
     assert_eq!(float_slot("10 00000001 11000 0 110 10 00"), refused(11));
     // Integers of 2^28 and 2^30: e is not the largest field plus one.
@@ -184,7 +185,7 @@ fn heads_that_no_block_has_give_11() {
     // All zero words in the form of multiples, and in the raw form.
     assert_eq!(float_slot("10 10000000 00000 0"), refused(11));
     assert_eq!(float_slot("11 00000 0"), refused(11));
-    assert_eq!(float_slot("0"), done(4));
+    assert_eq!(float_slot("0"), done(4, 0));
     // Four times 1.0 in the raw form: 0x3F800000 = 2^30 - 2^23, whose lowest plane is 23.
     let raw = {
         let coefficients = reference::words::to_negabinary(0x3F80_0000u32);

@@ -4,23 +4,25 @@ mod common;
 use common::*;
 use reference::{Params, bit_count, read, slot_count, store};
 
-fn lossy_read(kind: u32, planes: u32, width: u32, text: &str) -> [u32; 4] {
+/// The words of a lossy slot, and the planes that could be read whole.
+fn lossy_read(kind: u32, planes: u32, width: u32, text: &str) -> ([u32; 4], u32) {
     let p = params(kind, 1, LOSSY, planes, width);
     let mut words = [9; 4];
     let archive = bytes_of(&bits(text), (width as usize).div_ceil(8));
-    assert_eq!(read(&p, &archive, 0, &mut words), done(4));
-    words
+    let reply = read(&p, &archive, 0, &mut words);
+    assert_eq!((reply.answer, reply.count), (0, 4));
+    (words, reply.planes)
 }
 
 #[test]
 fn slot_counts() {
     let p = params(INTEGERS, 1, EXACT, 32, 0);
-    assert_eq!(slot_count(&p, &[0; 8]), done(2));
-    assert_eq!(slot_count(&Params { dimension: 2, ..p }, &[0; 17]), done(1));
-    assert_eq!(slot_count(&Params { width: 17, ..p }, &[0; 65_536]), done(30_840));
-    assert_eq!(slot_count(&Params { width: 8_462, ..p }, &[0; 1_057]), done(0));
-    assert_eq!(slot_count(&Params { width: 8_462, ..p }, &[0; 65_536]), done(61));
-    assert_eq!(slot_count(&p, &[]), done(0));
+    assert_eq!(slot_count(&p, &[0; 8]), done(2, 0));
+    assert_eq!(slot_count(&Params { dimension: 2, ..p }, &[0; 17]), done(1, 0));
+    assert_eq!(slot_count(&Params { width: 17, ..p }, &[0; 65_536]), done(30_840, 0));
+    assert_eq!(slot_count(&Params { width: 8_462, ..p }, &[0; 1_057]), done(0, 0));
+    assert_eq!(slot_count(&Params { width: 8_462, ..p }, &[0; 65_536]), done(61, 0));
+    assert_eq!(slot_count(&p, &[]), done(0, 0));
 }
 
 #[test]
@@ -38,27 +40,28 @@ fn a_lossy_code_is_cut_at_the_width() {
 #[test]
 fn a_cut_scan_sets_no_bit_unless_it_has_come_to_the_last_place() {
     // Sixteen bits: fourteen planes without a one, then a test and one bit of its scan.
-    assert_eq!(lossy_read(INTEGERS, 32, 16, "00000000000000 1 0"), [0; 4]);
+    assert_eq!(lossy_read(INTEGERS, 32, 16, "00000000000000 1 0"), ([0; 4], 14));
     // A test alone as the budget ends.
-    assert_eq!(lossy_read(INTEGERS, 32, 16, "000000000000000 1"), [0; 4]);
+    assert_eq!(lossy_read(INTEGERS, 32, 16, "000000000000000 1"), ([0; 4], 15));
     // Two 0s of a scan from place 0 come to place 2: no bit.
-    assert_eq!(lossy_read(INTEGERS, 32, 16, "0000000000000 1 00"), [0; 4]);
-    // A third comes to place 3, which is known: plane 19 of the last coefficient.
+    assert_eq!(lossy_read(INTEGERS, 32, 16, "0000000000000 1 00"), ([0; 4], 13));
+    // A third comes to place 3, which is known: plane 19 of the last coefficient, and that plane is whole.
     let expected = reference::transform::unlift([0, 0, 0, reference::words::from_negabinary(1u32 << 19)]);
-    assert_eq!(lossy_read(INTEGERS, 32, 16, "000000000000 1 000"), expected);
+    assert_eq!(lossy_read(INTEGERS, 32, 16, "000000000000 1 000"), (expected, 13));
     // After a one at place 2 a test alone is enough for place 3.
     let both = [0, 0, 1u32 << 20, 1 << 20].map(reference::words::from_negabinary);
-    assert_eq!(lossy_read(INTEGERS, 32, 16, "00000000000 1 001 1"), reference::transform::unlift(both));
+    let expected = reference::transform::unlift(both);
+    assert_eq!(lossy_read(INTEGERS, 32, 16, "00000000000 1 001 1"), (expected, 12));
 }
 
 #[test]
 fn lossy_floats_cut_to_the_smallest_width() {
-    // Seven bits are left for the planes: 1.0 keeps 2^30 - 2^29.
+    // Seven bits are left for the planes: 1.0 keeps 2^30 - 2^29, its planes 31 to 29. Of plane 28 a bit fits, not its test.
     let p = params(FLOATS, 1, LOSSY, 32, 16);
     let mut archive = [0xFF; 2];
-    assert_eq!(store(&p, &mut archive, 0, &[0x3F80_0000; 4]), done(16));
+    assert_eq!(store(&p, &mut archive, 0, &[0x3F80_0000; 4]), done(16, 3));
     let mut words = [0; 4];
-    assert_eq!(read(&p, &archive, 0, &mut words), done(4));
+    assert_eq!(read(&p, &archive, 0, &mut words), done(4, 3));
     assert_eq!(words, [0x3F80_0000; 4]);
 }
 
@@ -66,28 +69,27 @@ fn lossy_floats_cut_to_the_smallest_width() {
 fn lossy_floats_of_no_magnitude_are_a_single_0() {
     let p = params(FLOATS, 1, LOSSY, 32, 64);
     let (reply, slot) = stored(&p, &[0x8000_0000, 0, 0x8000_0000, 0]);
-    assert_eq!(reply, done(1));
+    assert_eq!(reply, done(1, 0));
     assert!(!slot.contains(&true));
     // After a first bit 0 nothing else of the slot matters.
-    assert_eq!(lossy_read(FLOATS, 32, 64, &format!("0{}", "1".repeat(63))), [0; 4]);
-    // A first bit 1 with no one in the planes gives +0s, with any e.
+    assert_eq!(lossy_read(FLOATS, 32, 64, &format!("0{}", "1".repeat(63))), ([0; 4], 0));
+    // A first bit 1 with no one in the planes gives +0s, with any e. Each plane is a test.
     for e in ["00000000", "11111111", "00000001"] {
-        assert_eq!(lossy_read(FLOATS, 32, 64, &format!("1{e}")), [0; 4]);
+        assert_eq!(lossy_read(FLOATS, 32, 64, &format!("1{e}")), ([0; 4], 32));
     }
 }
 
 #[test]
 fn lossy_read_of_e_0() {
     // A one in plane 30 of the first coefficient only: 2^30 x 2^-157 = 2^-127, the pattern 0x00400000.
-    let words = lossy_read(FLOATS, 2, 64, "1 00000000 0 110");
-    assert_eq!(words, [0x0040_0000; 4]);
+    assert_eq!(lossy_read(FLOATS, 2, 64, "1 00000000 0 110"), ([0x0040_0000; 4], 2));
 }
 
 #[test]
 fn lossy_read_of_the_largest_e() {
     // 2^30 x 2^98 = 2^128 is too large; the planes 31 and 30 give -2^31 + 2^30, its negative.
-    assert_eq!(lossy_read(FLOATS, 2, 64, "1 11111111 0 110"), [0x7F80_0000; 4]);
-    assert_eq!(lossy_read(FLOATS, 2, 64, "1 11111111 110 10"), [0xFF80_0000; 4]);
+    assert_eq!(lossy_read(FLOATS, 2, 64, "1 11111111 0 110"), ([0x7F80_0000; 4], 2));
+    assert_eq!(lossy_read(FLOATS, 2, 64, "1 11111111 110 10"), ([0xFF80_0000; 4], 2));
 }
 
 #[test]
@@ -170,7 +172,7 @@ fn exact_blocks_come_back() {
                 assert_eq!(reply.answer, 0);
                 assert_eq!(bit_count(&p, &block), reply);
                 let mut words = vec![0; n as usize];
-                assert_eq!(read(&p, &archive, 2, &mut words), done(n));
+                assert_eq!(read(&p, &archive, 2, &mut words), done(n, reply.planes));
                 assert_eq!(words, block);
             }
         }

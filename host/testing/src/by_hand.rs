@@ -1,5 +1,7 @@
 //! Orders and blocks worked out by hand for every dimension.
 
+pub mod planes;
+
 /// The places of a cube in the order of their coefficients, written out from the rule: a line for each sum of the
 /// indices; in a line by the sum of squares, then larger i first, then larger j.
 const CUBE: [&[usize]; 10] = [

@@ -1,6 +1,6 @@
 //! Blocks of `f32` and `i32`, and the blocks of an archive one after the other.
 
-use crate::{Kind, Params, Refusal, read, slot_count, store};
+use crate::{Done, Kind, Params, Refusal, read, slot_count, store};
 use std::iter::FusedIterator;
 use std::marker::PhantomData;
 
@@ -51,19 +51,20 @@ fn check_kind<T: Value>(params: Params) -> Result<(), Refusal> {
     if params.kind()? == T::KIND { Ok(()) } else { Err(Refusal::InvalidKind) }
 }
 
-/// Stores a block of `f32` or of `i32` in a slot and gives the bits of its code, as [`store`] does of words.
+/// Stores a block of `f32` or of `i32` in a slot and gives the bits of its code and its planes, as [`store`] does of words.
 ///
 /// # Errors
 /// [`Refusal::InvalidKind`] if the parameters are those of the other type; otherwise those of [`store`]. A refused
 /// store changes nothing.
 ///
 /// ```
-/// use windlassow::{Dimension, Params, Refusal, read_block, store_block};
+/// use windlassow::{Block, Dimension, Params, Refusal, read_block, store_block};
 ///
 /// let params = Params::exact_floats(Dimension::One);
 /// let mut archive = [0; 19];
 /// store_block(params, &mut archive, 0, &[36.6f32, 36.6, 36.7, 36.8])?;
-/// assert_eq!(read_block(params, &archive, 0), Ok([36.6f32, 36.6, 36.7, 36.8]));
+/// let back = Block { values: [36.6f32, 36.6, 36.7, 36.8], planes: 26 };
+/// assert_eq!(read_block(params, &archive, 0), Ok(back));
 /// assert_eq!(read_block::<i32, 4>(params, &archive, 0), Err(Refusal::InvalidKind));
 ///
 /// // A cube of 4 x 4 x 4 probes, a tenth of a degree colder with each square.
@@ -71,7 +72,7 @@ fn check_kind<T: Value>(params: Params) -> Result<(), Refusal> {
 /// let cube: [f32; 64] = std::array::from_fn(|place| [4.5, 4.4, 4.3, 4.2][place / 16]);
 /// let mut archive = vec![0; params.archive_len(1)?];
 /// store_block(params, &mut archive, 0, &cube)?;
-/// assert_eq!(read_block(params, &archive, 0), Ok(cube));
+/// assert_eq!(read_block(params, &archive, 0), Ok(Block { values: cube, planes: 26 }));
 /// # Ok::<(), Refusal>(())
 /// ```
 pub fn store_block<T: Value, const N: usize>(
@@ -79,9 +80,18 @@ pub fn store_block<T: Value, const N: usize>(
     archive: &mut [u8],
     slot: usize,
     block: &[T; N],
-) -> Result<usize, Refusal> {
+) -> Result<Done, Refusal> {
     check_kind::<T>(params)?;
     store(params, archive, slot, &block.map(T::to_word))
+}
+
+/// A block that was read, and how many of its planes were there whole.
+#[derive(Clone, Copy, Debug, PartialEq, Eq)]
+pub struct Block<T, const N: usize> {
+    /// The values.
+    pub values: [T; N],
+    /// The bit planes that could be read whole, as [`Done::planes`] has them: of a lossy record how much of it survived.
+    pub planes: u32,
 }
 
 /// Reads a block of `f32` or of `i32` from a slot, as [`read`] does of words. N must be the length of a block.
@@ -93,11 +103,11 @@ pub fn read_block<T: Value, const N: usize>(
     params: Params,
     archive: &[u8],
     slot: usize,
-) -> Result<[T; N], Refusal> {
+) -> Result<Block<T, N>, Refusal> {
     check_kind::<T>(params)?;
     let mut words = [0; N];
-    read(params, archive, slot, &mut words)?;
-    Ok(words.map(T::from_word))
+    let Done { planes, .. } = read(params, archive, slot, &mut words)?;
+    Ok(Block { values: words.map(T::from_word), planes })
 }
 
 /// The blocks of an archive, slot after slot. A slot that cannot be read is an error in its place, and the next one
@@ -116,7 +126,8 @@ pub fn read_block<T: Value, const N: usize>(
 /// store_block(params, &mut archive, 2, &[-5i32, -5, -5, -5])?;
 /// archive[33] = 0x80; // the last bit of slot 1: a one after its code
 ///
-/// let blocks: Vec<_> = slots::<i32, 4>(params, &archive)?.collect();
+/// let blocks = slots::<i32, 4>(params, &archive)?.map(|block| Ok(block?.values));
+/// let blocks: Vec<_> = blocks.collect();
 /// assert_eq!(blocks, [Ok([1, 2, 3, 4]), Err(Refusal::NotACode), Ok([-5; 4])]);
 /// # Ok::<(), Refusal>(())
 /// ```
@@ -140,7 +151,7 @@ pub struct Slots<'a, T, const N: usize> {
 }
 
 impl<T: Value, const N: usize> Iterator for Slots<'_, T, N> {
-    type Item = Result<[T; N], Refusal>;
+    type Item = Result<Block<T, N>, Refusal>;
 
     fn next(&mut self) -> Option<Self::Item> {
         if self.next == self.end {

@@ -6,10 +6,19 @@
 
 use crate::Params;
 
-/// What every call returns: an answer number and a count.
+/// What every call on slots returns: an answer number, a count and the planes.
 #[repr(C)]
 #[derive(Clone, Copy)]
 pub struct Reply {
+    pub answer: u32,
+    pub count: u32,
+    pub planes: u32,
+}
+
+/// What every call on streams returns: an answer number and a count.
+#[repr(C)]
+#[derive(Clone, Copy)]
+pub struct FpcReply {
     pub answer: u32,
     pub count: u32,
 }
@@ -70,7 +79,7 @@ unsafe extern "C" {
         doubles_len: usize,
         out: *mut u8,
         out_len: usize,
-    ) -> Reply;
+    ) -> FpcReply;
 
     fn windlassow_fpc_read(
         f: *mut u64,
@@ -81,7 +90,7 @@ unsafe extern "C" {
         stream_len: usize,
         doubles: *mut u64,
         doubles_len: usize,
-    ) -> Reply;
+    ) -> FpcReply;
 }
 
 pub fn store(p: Params, archive: &mut [u8], slot: usize, words: &[u32]) -> Reply {
@@ -134,7 +143,7 @@ pub fn bit_count(p: Params, words: &[u32]) -> Reply {
     }
 }
 
-pub fn fpc_write(f: &mut [u64], d: &mut [u64], doubles: &[u64], out: &mut [u8]) -> Reply {
+pub fn fpc_write(f: &mut [u64], d: &mut [u64], doubles: &[u64], out: &mut [u8]) -> FpcReply {
     // SAFETY: as above.
     unsafe {
         windlassow_fpc_write(
@@ -150,7 +159,7 @@ pub fn fpc_write(f: &mut [u64], d: &mut [u64], doubles: &[u64], out: &mut [u8]) 
     }
 }
 
-pub fn fpc_read(f: &mut [u64], d: &mut [u64], stream: &[u8], doubles: &mut [u64]) -> Reply {
+pub fn fpc_read(f: &mut [u64], d: &mut [u64], stream: &[u8], doubles: &mut [u64]) -> FpcReply {
     // SAFETY: as above.
     unsafe {
         windlassow_fpc_read(

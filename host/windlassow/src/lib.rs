@@ -26,6 +26,9 @@
 //! # }
 //! ```
 //!
+//! A done call on a slot gives [`Done`]: a count, and how many bit planes are whole. Of a lossy record that says how much
+//! of it survived.
+//!
 //! A refused call changes no buffer, with one exception: [`fpc_write`] and [`fpc_read`] leave both tables zero
 //! with [`Refusal::OutputTooLong`] and [`Refusal::NotAStream`].
 //!
@@ -36,14 +39,16 @@
 //! can lose bytes keeps a checksum beside them.
 
 mod blocks;
+mod done;
 mod ffi;
 mod params;
 mod refusal;
 
-pub use blocks::{Slots, Value, read_block, slots, store_block};
+pub use blocks::{Block, Slots, Value, read_block, slots, store_block};
+pub use done::Done;
 pub use params::{Dimension, Kind, Mode, Params};
 pub use refusal::Refusal;
-use refusal::outcome;
+use refusal::{fpc_outcome, outcome};
 
 /// The least bits of a slot; fewer are refused with [`Refusal::InvalidWidth`], but 0 stands for 8 bits a word.
 pub const MIN_WIDTH: u32 = 16;
@@ -70,17 +75,18 @@ pub const STACK_BYTES: usize = 80 * 1024;
 #[doc = include_str!("../../../README.md")]
 struct Readme;
 
-/// Stores a block in a slot and gives the bits of its code. Only the bits of that slot change.
+/// Stores a block in a slot and gives the bits of its code and the planes that were written whole. Only the bits of that
+/// slot change.
 ///
 /// # Errors
 /// Refusals 1 to 10. [`Refusal::CodeTooLong`] has the bits that an exact block needs. A refused store changes nothing.
 ///
 /// ```
-/// use windlassow::{Dimension, Params, Refusal, store};
+/// use windlassow::{Dimension, Done, Params, Refusal, store};
 ///
 /// let params = Params::exact_integers(Dimension::One).with_width(48);
 /// let mut archive = [0u8; 12];
-/// assert_eq!(store(params, &mut archive, 1, &[1; 4]), Ok(39));
+/// assert_eq!(store(params, &mut archive, 1, &[1; 4]), Ok(Done { count: 39, planes: 32 }));
 /// assert_eq!(archive, [0, 0, 0, 0, 0, 0, 0x1f, 0, 0, 0, 0x30, 0]);
 ///
 /// // A block that needs 136 bits does not fit into 48.
@@ -89,11 +95,12 @@ struct Readme;
 /// assert_eq!(refusal, Refusal::CodeTooLong { bits: 136 });
 /// assert_eq!(refusal.number(), 10);
 /// ```
-pub fn store(params: Params, archive: &mut [u8], slot: usize, words: &[u32]) -> Result<usize, Refusal> {
+pub fn store(params: Params, archive: &mut [u8], slot: usize, words: &[u32]) -> Result<Done, Refusal> {
     outcome(ffi::store(params, archive, slot, words))
 }
 
-/// Reads a slot into `words`, which must have the length of a block, and gives that length.
+/// Reads a slot into `words`, which must have the length of a block, and gives that length and the planes that could be
+/// read whole.
 ///
 /// In exact mode a slot that no block could have produced is refused. In lossy mode every slot can be read.
 ///
@@ -105,20 +112,21 @@ pub fn store(params: Params, archive: &mut [u8], slot: usize, words: &[u32]) -> 
 /// Refusals 1 to 8, and in exact mode [`Refusal::NotACode`], 11. A refused read leaves `words` as they were.
 ///
 /// ```
-/// use windlassow::{Dimension, Params, Refusal, read};
+/// use windlassow::{Dimension, Done, Params, Refusal, read};
 ///
 /// let mut words = [9; 4];
 /// let exact = Params::exact_integers(Dimension::One).with_width(48);
 /// assert_eq!(read(exact, &[0xff; 6], 0, &mut words), Err(Refusal::NotACode));
 /// assert_eq!(words, [9; 4]);
+/// // All places have a one in the first plane, which takes 7 bits. Of the other 41 each plane takes four.
 /// let lossy = Params::lossy_integers(Dimension::One, 32, 48);
-/// assert_eq!(read(lossy, &[0xff; 6], 0, &mut words), Ok(4));
+/// assert_eq!(read(lossy, &[0xff; 6], 0, &mut words), Ok(Done { count: 4, planes: 1 + 10 }));
 ///
-/// // A lost slot reads as zeros.
-/// assert_eq!(read(exact, &[0; 6], 0, &mut words), Ok(4));
+/// // A lost slot reads as zeros, coded in a single plane.
+/// assert_eq!(read(exact, &[0; 6], 0, &mut words), Ok(Done { count: 4, planes: 1 }));
 /// assert_eq!(words, [0; 4]);
 /// ```
-pub fn read(params: Params, archive: &[u8], slot: usize, words: &mut [u32]) -> Result<usize, Refusal> {
+pub fn read(params: Params, archive: &[u8], slot: usize, words: &mut [u32]) -> Result<Done, Refusal> {
     outcome(ffi::read(params, archive, slot, words))
 }
 
@@ -134,22 +142,25 @@ pub fn read(params: Params, archive: &[u8], slot: usize, words: &mut [u32]) -> R
 /// assert_eq!(slot_count(params, &[0; 64]), Ok(5));
 /// ```
 pub fn slot_count(params: Params, archive: &[u8]) -> Result<usize, Refusal> {
-    outcome(ffi::slot_count(params, archive))
+    let done = outcome(ffi::slot_count(params, archive))?;
+    debug_assert!(done.planes == 0, "{} planes with a slot count", done.planes);
+    Ok(done.count)
 }
 
-/// The bits of a block's code: what [`store`] would give, or what it would need in exact mode.
+/// The bits of a block's code and the planes written whole: what [`store`] would give. In exact mode the width does not
+/// matter, and the bits are those that a slot needs.
 ///
 /// # Errors
 /// Refusals 1 to 5, 8 and 9.
 ///
 /// ```
-/// use windlassow::{Dimension, Params, bit_count};
+/// use windlassow::{Dimension, Done, Params, bit_count};
 ///
 /// let params = Params::exact_floats(Dimension::One);
-/// assert_eq!(bit_count(params, &[1.0f32.to_bits(); 4]), Ok(21));
-/// assert_eq!(bit_count(params, &[0; 4]), Ok(1));
+/// assert_eq!(bit_count(params, &[1.0f32.to_bits(); 4]), Ok(Done { count: 21, planes: 3 }));
+/// assert_eq!(bit_count(params, &[0; 4]), Ok(Done { count: 1, planes: 0 }));
 /// ```
-pub fn bit_count(params: Params, words: &[u32]) -> Result<usize, Refusal> {
+pub fn bit_count(params: Params, words: &[u32]) -> Result<Done, Refusal> {
     outcome(ffi::bit_count(params, words))
 }
 
@@ -175,7 +186,7 @@ pub fn bit_count(params: Params, words: &[u32]) -> Result<usize, Refusal> {
 /// assert_eq!(refusal.needed(), Some(9));
 /// ```
 pub fn fpc_write(f: &mut [u64], d: &mut [u64], doubles: &[u64], out: &mut [u8]) -> Result<usize, Refusal> {
-    outcome(ffi::fpc_write(f, d, doubles, out))
+    fpc_outcome(ffi::fpc_write(f, d, doubles, out))
 }
 
 /// Reads an FPC stream into `doubles` and gives their number. The tables must have the length that they had when
@@ -199,5 +210,5 @@ pub fn fpc_write(f: &mut [u64], d: &mut [u64], doubles: &[u64], out: &mut [u8]) 
 /// assert_eq!(fpc_read(&mut f, &mut d, &[0x66, 0, 0], &mut doubles), Err(Refusal::NotAStream));
 /// ```
 pub fn fpc_read(f: &mut [u64], d: &mut [u64], stream: &[u8], doubles: &mut [u64]) -> Result<usize, Refusal> {
-    outcome(ffi::fpc_read(f, d, stream, doubles))
+    fpc_outcome(ffi::fpc_read(f, d, stream, doubles))
 }

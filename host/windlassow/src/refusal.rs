@@ -1,6 +1,7 @@
 //! The refusals.
 
-use crate::ffi::Reply;
+use crate::Done;
+use crate::ffi::{FpcReply, Reply};
 use std::error::Error;
 use std::fmt::{self, Display, Formatter};
 
@@ -88,9 +89,14 @@ impl Refusal {
     }
 
     /// The refusal of an answer number other than 0.
-    fn from_reply(reply: Reply) -> Refusal {
-        let count = reply.count as usize;
-        match reply.answer {
+    fn from_numbers(answer: u32, count: u32) -> Refusal {
+        let refusal = Refusal::from_answer(answer, count as usize);
+        debug_assert!(count == 0 || refusal.needed().is_some(), "a count with answer {answer}");
+        refusal
+    }
+
+    fn from_answer(answer: u32, count: usize) -> Refusal {
+        match answer {
             1 => Refusal::InvalidKind,
             2 => Refusal::InvalidDimension,
             3 => Refusal::InvalidMode,
@@ -139,14 +145,20 @@ impl Refusal {
     }
 }
 
-/// The count of a done call, or the refusal.
-pub(crate) fn outcome(reply: Reply) -> Result<usize, Refusal> {
-    if reply.answer == 0 {
-        return Ok(reply.count as usize);
+/// The count and the planes of a done call on slots, or the refusal, which reports 0 planes.
+pub(crate) fn outcome(reply: Reply) -> Result<Done, Refusal> {
+    let Reply { answer, count, planes } = reply;
+    if answer == 0 {
+        return Ok(Done { count: count as usize, planes });
     }
-    let refusal = Refusal::from_reply(reply);
-    debug_assert!(reply.count == 0 || refusal.needed().is_some(), "a count with answer {}", reply.answer);
-    Err(refusal)
+    debug_assert!(planes == 0, "{planes} planes with answer {answer}");
+    Err(Refusal::from_numbers(answer, count))
+}
+
+/// The count of a done call on streams, or the refusal.
+pub(crate) fn fpc_outcome(reply: FpcReply) -> Result<usize, Refusal> {
+    let FpcReply { answer, count } = reply;
+    if answer == 0 { Ok(count as usize) } else { Err(Refusal::from_numbers(answer, count)) }
 }
 
 impl Display for Refusal {

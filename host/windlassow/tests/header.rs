@@ -6,20 +6,24 @@ use testing::repository;
 use windlassow::STACK_BYTES;
 
 const EXPECTED: &str = "\
-slot_count: answer 0, count 2
-bit_count: answer 0, count 136
-store: answer 0, count 39
-store: answer 10, count 136
+slot_count: answer 0, count 2, planes 0
+bit_count: answer 0, count 136, planes 32
+store: answer 0, count 39, planes 32
+store: answer 10, count 136, planes 0
 ffffffffffff1f0000003000ff
-read: answer 0, count 4
+read: answer 0, count 4, planes 32
 1 1 1 1
-read: answer 11, count 0
+read: answer 11, count 0, planes 0
 no block has the code of slot 0
-read: answer 7, count 0
-store: answer 0, count 47
-read: answer 0, count 256
+read: answer 7, count 0, planes 0
+store: answer 0, count 40, planes 28
+28 of 32 planes are whole
+read: answer 0, count 4, planes 28
+2008 2008 2008 2008
+store: answer 0, count 47, planes 32
+read: answer 0, count 256, planes 32
 1
-bit_count: answer 2, count 0
+bit_count: answer 2, count 0, planes 0
 fpc_write: answer 0, count 9
 07000000000000f03f
 fpc_read: answer 0, count 2
@@ -31,6 +35,9 @@ fpc_write: answer 20, count 0
 
 // The 47 bits of 256 times 215: the first coefficient is 215, in negabinary 100101011. 5 bits of p - 1 = 31, planes 31 to 9
 // empty, a test, a bit and a test in plane 8, a bit and a test in each of the planes 7 to 0.
+//
+// The planes of 2000 2004 2008 2012 are written out in `testing::by_hand::planes::readings`: 28 of them end at the 38th bit,
+// and the next takes four. What is left of it is a one of the first coefficient, 2048 - 32 - 8 = 2008, and a test.
 
 /// Compiles the example in a language, links and runs it, and compares what it prints.
 fn run_as(language: &str, standard: &str) {

@@ -1,7 +1,7 @@
 //! The parts of the Rust interface that are not calls of the library: parameters, lengths, blocks of values, texts.
 
 use windlassow::{
-    Dimension, Kind, MAX_ARCHIVE_LEN, MAX_RUN_LEN, MAX_STREAM_LEN, MAX_WIDTH, MIN_WIDTH, Mode, Params,
+    Block, Dimension, Kind, MAX_ARCHIVE_LEN, MAX_RUN_LEN, MAX_STREAM_LEN, MAX_WIDTH, MIN_WIDTH, Mode, Params,
     Refusal, Value, fpc_read, fpc_write, read_block, slot_count, slots, store_block,
 };
 
@@ -86,15 +86,16 @@ fn blocks_of_floats_come_back_bit_for_bit() {
     let mut archive = [0; 19];
     for words in [[0x8000_0000, 0, 1, 0x7F7F_FFFF], [0x7F80_0000, 0xFF80_0000, 0x7FC0_1234, 0x7F80_0001]] {
         store_block(p, &mut archive, 0, &words.map(f32::from_bits)).unwrap();
-        let back: [f32; 4] = read_block(p, &archive, 0).unwrap();
-        assert_eq!(back.map(f32::to_bits), words);
+        let back: Block<f32, 4> = read_block(p, &archive, 0).unwrap();
+        assert_eq!(back.values.map(f32::to_bits), words);
     }
 }
 
 /// In the only slot of an archive.
 fn comes_back<T: Value + PartialEq + std::fmt::Debug, const N: usize>(p: Params, block: [T; N]) {
     let mut archive = vec![0; p.archive_len(1).unwrap()];
-    store_block(p, &mut archive, 0, &block).unwrap();
+    let planes = store_block(p, &mut archive, 0, &block).unwrap().planes;
+    let block = Block { values: block, planes };
     assert_eq!(read_block(p, &archive, 0), Ok(block));
     assert_eq!(slots(p, &archive).unwrap().collect::<Vec<_>>(), [Ok(block)]);
 }
@@ -138,7 +139,10 @@ fn every_slot_once_and_in_order() {
     let mut all = slots::<i32, 4>(p, &archive).unwrap();
     for slot in 0..100 {
         assert_eq!(all.len(), 100 - slot);
-        assert_eq!(all.next(), Some(Ok([slot as i32; 4])));
+        let block = all.next().unwrap().unwrap();
+        assert_eq!(block.values, [slot as i32; 4]);
+        // The one coefficient is the number itself, and its lowest one is there in negabinary too; zeros take a plane.
+        assert_eq!(block.planes, if slot == 0 { 1 } else { 32 - slot.trailing_zeros() });
     }
     assert_eq!((all.len(), all.next(), all.next()), (0, None, None));
 }

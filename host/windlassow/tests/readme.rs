@@ -2,7 +2,7 @@
 
 use std::fs;
 use testing::{bits, by_hand, repository};
-use windlassow::{Dimension, Params, STACK_BYTES, fpc_write, read_block, store_block};
+use windlassow::{Block, Dimension, Done, Params, STACK_BYTES, fpc_write, read_block, store_block};
 
 /// The lines of the block of text that follows a sentence which begins like this.
 fn picture(sentence: &str) -> Vec<String> {
@@ -24,7 +24,7 @@ fn the_bits_of_p5() {
     let code = bits(&picture("The bits of P5")[0]);
     let mut archive = [0xFF; 19];
     let used = store_block(Params::exact_floats(Dimension::One), &mut archive, 0, &[1.0f32; 4]);
-    assert_eq!(used, Ok(code.len()));
+    assert_eq!(used, Ok(Done { count: code.len(), planes: 3 }));
     assert_eq!(archive[..18], bytes_of(&code, 18));
 }
 
@@ -48,9 +48,12 @@ fn a_scan_cut_at_the_last_place_and_before_it() {
     for (bits, bytes) in &slots {
         assert_eq!((bits.len(), &bytes_of(bits, 2)), (16, bytes));
     }
-    let blocks: Vec<[i32; 4]> = slots.iter().map(|(_, bytes)| read_block(p, bytes, 0).unwrap()).collect();
+    let blocks: Vec<Block<i32, 4>> =
+        slots.iter().map(|(_, bytes)| read_block(p, bytes, 0).unwrap()).collect();
     let a = 1 << 17;
-    assert_eq!(blocks, [[a, -5 * a, 5 * a, -a], [0; 4]]);
+    // Planes 31 to 20 and plane 19, which is whole; planes 31 to 19.
+    let whole = Block { values: [a, -5 * a, 5 * a, -a], planes: 12 + 1 };
+    assert_eq!(blocks, [whole, Block { values: [0; 4], planes: 13 }]);
 }
 
 /// A row of a picture shows the numbers of a row of each square.

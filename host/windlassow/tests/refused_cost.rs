@@ -5,6 +5,7 @@
 #![allow(unsafe_code)]
 
 use std::ffi::c_void;
+use std::fmt::Debug;
 use std::ops::{Deref, DerefMut};
 use std::time::{Duration, Instant};
 use std::{fs, ptr, slice};
@@ -68,7 +69,7 @@ struct Slow(Vec<String>);
 
 impl Slow {
     /// A call that has to be refused with this number. If it is late it is tried again, for the machine may be busy; a walk is not.
-    fn refused(&mut self, number: u32, what: &str, mut call: impl FnMut() -> Result<usize, Refusal>) {
+    fn refused<T: Debug>(&mut self, number: u32, what: &str, mut call: impl FnMut() -> Result<T, Refusal>) {
         self.timed(what, || {
             let refusal = call().expect_err(what);
             assert_eq!(refusal.number(), number, "{what}");

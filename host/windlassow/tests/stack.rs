@@ -8,7 +8,8 @@ use reference::{floats, transform};
 use std::thread;
 use testing::{EXACT, FLOATS, INTEGERS, LOSSY, by_hand};
 use windlassow::{
-    MAX_RUN_LEN, MAX_STREAM_LEN, MAX_WIDTH, Params, STACK_BYTES, bit_count, fpc_read, fpc_write, read, store,
+    Done, MAX_RUN_LEN, MAX_STREAM_LEN, MAX_WIDTH, Params, STACK_BYTES, bit_count, fpc_read, fpc_write, read,
+    store,
 };
 
 /// Does this in a thread of that stack.
@@ -60,7 +61,11 @@ fn the_deepest_blocks() {
         let count = bit_count(params(kind, mode), &words);
         (count, words)
     });
-    assert_eq!([longest.0, raw.0, lossy.0], [Ok(8_452), Ok(7 + 511), Ok(23 + 511 + 8 * 256)]);
+    let done = |count, planes| Ok(Done { count, planes });
+    assert_eq!(
+        [longest.0, raw.0, lossy.0],
+        [done(8_452, 32), done(7 + 511, 1), done(23 + 511 + 8 * 256, 23 + 1 + 8)]
+    );
     let e = floats::common_exponent(&lossy_floats.1);
     let integers: Vec<u32> = lossy_floats.1.iter().map(|&word| floats::to_integer(e, word)).collect();
     let coefficients = transform::to_coefficients(&integers, 4, transform::lift);
@@ -76,10 +81,11 @@ fn stores_and_reads() {
         let name = format!("kind {kind}, mode {mode}");
         let stored = in_a_small_thread(&format!("store, {name}"), || store(p, &mut archive, 0, &words));
         assert_eq!(stored, bit_count(p, &words));
-        assert!(stored.is_ok());
+        let planes = stored.expect("the block fits").planes;
         let counted = in_a_small_thread(&format!("bit count, {name}"), || bit_count(p, &words));
         assert_eq!(counted, stored);
-        assert_eq!(in_a_small_thread(&format!("read, {name}"), || read(p, &archive, 0, &mut back)), Ok(256));
+        let given = in_a_small_thread(&format!("read, {name}"), || read(p, &archive, 0, &mut back));
+        assert_eq!(given, Ok(Done { count: 256, planes }));
         if mode == EXACT {
             assert_eq!(back, words);
         }
@@ -110,6 +116,8 @@ fn reads_of_ones() {
         let given = in_a_small_thread(&format!("read of ones, kind {kind}, mode {mode}"), || {
             read(p, &archive, 0, &mut back)
         });
-        assert_eq!(given.map_err(|refusal| refusal.number()), if mode == LOSSY { Ok(256) } else { Err(11) });
+        // Plane 31 takes 511 bits and each further one 256, 8,447 in all: every plane is there.
+        let lossy = Ok(Done { count: 256, planes: 32 });
+        assert_eq!(given.map_err(|refusal| refusal.number()), if mode == LOSSY { lossy } else { Err(11) });
     }
 }

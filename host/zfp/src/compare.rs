@@ -5,9 +5,11 @@ use crate::classes::{Call, Class, Head, scale_overflows, scale_underflows, some_
 use crate::expected::{Code, Rules, followed_by_zeros, words_read, written};
 use crate::libzfp::{Libzfp, Setting, checked, setting, shape};
 use crate::order::{Reordered, reordered};
+use crate::planes::{planes_read, planes_within};
 use crate::tally::{Origin, Tally};
 use reference::params::{Checked, Kind, Mode};
 use reference::{Params, Reply};
+use windlassow::Done;
 
 /// What both have written for a block.
 pub struct Written {
@@ -46,11 +48,17 @@ pub struct Comparison {
 }
 
 /// The outcome of a call of the proved library in the shape of the reference's.
-fn reply(outcome: Result<usize, windlassow::Refusal>) -> Reply {
+fn reply(outcome: Result<Done, windlassow::Refusal>) -> Reply {
     match outcome {
-        Ok(count) => Reply { answer: 0, count: count as u32 },
-        Err(refusal) => Reply { answer: refusal.number(), count: refusal.needed().unwrap_or(0) as u32 },
+        Ok(Done { count, planes }) => Reply::done(count, planes),
+        Err(refusal) => Reply::needs(refusal.number(), refusal.needed().unwrap_or(0)),
     }
+}
+
+/// Whether the bit count gives what the store gave. Of one that is refused as too long it gives the bits.
+fn is_counted(p: &Params, words: &[u32], stored: Reply) -> bool {
+    let counted = reply(windlassow::bit_count(ours(p), words));
+    if stored.answer == 10 { counted.count == stored.count } else { counted == stored }
 }
 
 fn ours(p: &Params) -> windlassow::Params {
@@ -106,8 +114,8 @@ impl Comparison {
         let reply = reply(windlassow::store(ours(p), &mut archive, 0, words));
         let agreed = reply == reference::store(p, &mut expected, 0, words) && archive == expected;
         self.must(agreed, "the reference stores otherwise", p, || hex_words(words));
-        let counted = windlassow::bit_count(ours(p), words).unwrap_or(0);
-        self.must(counted == reply.count as usize, "store and bit count differ", p, || hex_words(words));
+        self.must(is_counted(p, words, reply), "store and bit count differ", p, || hex_words(words));
+        self.check_planes(p, &c, words, reply);
         let theirs = self.lib.encode(shape(&c), setting(&c), words);
         let foretold = written(&c, words, Some(self.lib.orders(c.dimension))).holds(&theirs);
         self.must(foretold, "libzfp's code is not the one expected", p, || hex_words(words));
@@ -120,6 +128,23 @@ impl Comparison {
         row.counts_equal += u64::from(reply.answer != 9 && reply.count as usize == theirs.len());
         row.note(Call::Write, class);
         Written { reply, ours: slot, theirs, class }
+    }
+
+    /// The planes of a lossy store with libzfp as the judge. It cannot be asked where its scale fails.
+    fn check_planes(&mut self, p: &Params, c: &Checked, words: &[u32], reply: Reply) {
+        if c.mode == Mode::Exact || reply.answer != 0 || c.kind == Kind::Floats && scale_overflows(words) {
+            return;
+        }
+        let same = planes_within(&self.lib, c, words) == reply.planes;
+        self.must(same, "libzfp's codes have other planes whole", p, || hex_words(words));
+        self.tally.row(p).note_planes(Call::Write, same);
+    }
+
+    /// The same of a lossy read. Here libzfp can always be asked.
+    fn check_planes_read(&mut self, p: &Params, c: &Checked, slot: &[bool], reply: Reply) {
+        let same = planes_read(&self.lib, c, slot) == reply.planes;
+        self.must(same, "libzfp reads other planes whole", p, || hex(slot));
+        self.tally.row(p).note_planes(Call::Read, same);
     }
 
     /// libzfp told to fill the slot, or to keep to it, writes the same code with zeros after it, or cut.
@@ -183,8 +208,9 @@ impl Comparison {
         self.must(foretold, "libzfp's words are not the ones expected", p, || hex(slot));
         let words = (reply.answer == 0).then_some(words);
         let class = self.class_of_reading(p, slot, words.as_deref(), &theirs);
-        if c.mode == Mode::Exact {
-            self.check_refusal(p, &c, slot, reply);
+        match c.mode {
+            Mode::Lossy => self.check_planes_read(p, &c, slot, reply),
+            Mode::Exact => self.check_refusal(p, &c, slot, reply),
         }
         let row = self.tally.row(p);
         row.slots[origin as usize] += 1;

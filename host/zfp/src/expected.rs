@@ -53,13 +53,13 @@ pub fn written(p: &Checked, words: &[u32], orders: Option<&Orders>) -> Code {
 /// The same in document 01's order.
 fn written_whole(p: &Checked, words: &[u32]) -> Code {
     if p.kind == Kind::Integers {
-        return Code::Known(encode(p, words));
+        return Code::Known(encode(p, words).bits);
     }
     if p.mode == Mode::Lossy && crate::classes::some_not_finite(words) {
         return Code::Open;
     }
     if !scale_overflows(words) {
-        return Code::Known(encode(p, words));
+        return Code::Known(encode(p, words).bits);
     }
     match p.mode {
         Mode::Lossy => overflowed(p, words),
@@ -76,7 +76,7 @@ fn overflowed(p: &Checked, words: &[u32]) -> Code {
         return Code::Begins(code);
     };
     let integers = Checked { kind: Kind::Integers, width: p.width - code.len(), ..*p };
-    code.extend(encode(&integers, &vec![integer; words.len()]));
+    code.extend(encode(&integers, &vec![integer; words.len()]).bits);
     Code::Known(code)
 }
 
@@ -85,7 +85,7 @@ fn overflowed(p: &Checked, words: &[u32]) -> Code {
 fn reinterpreted(p: &Checked, words: &[u32]) -> Vec<bool> {
     let flipped: Vec<u32> = words.iter().map(|&word| flip(word)).collect();
     let mut code = vec![true, true];
-    code.extend(encode(&Checked { kind: Kind::Integers, ..*p }, &flipped));
+    code.extend(encode(&Checked { kind: Kind::Integers, ..*p }, &flipped).bits);
     code
 }
 
@@ -139,7 +139,7 @@ fn times_zero(integer: u32) -> u32 {
 
 fn integers_read(p: &Checked, bits: &[bool], count: u32, rules: Rules<'_>) -> Vec<u32> {
     let len = p.block_len();
-    let mut coefficients: Vec<u32> = planes::read(bits, len, count);
+    let (mut coefficients, _): (Vec<u32>, u32) = planes::read(bits, len, count);
     if let Some(place) = cut_scan(bits, len, count).filter(|_| rules.cut_scan) {
         coefficients[place.coefficient] |= 1 << place.plane;
     }

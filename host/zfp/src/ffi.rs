@@ -66,6 +66,8 @@ fn type_of(kind: Kind) -> c_int {
 const MIN_EXP: c_int = -1074;
 /// The header's `ZFP_MAX_PREC`.
 const MAX_PREC: c_uint = 64;
+/// The header's `ZFP_MAX_BITS`: no code has more.
+const MAX_BITS: c_uint = 16658;
 
 /// A stream over a buffer of its own.
 struct Session {
@@ -108,6 +110,9 @@ impl Session {
                 }
                 Setting::ReversibleWithin(most) => {
                     zfp_stream_set_params(self.zfp, 1, most, MAX_PREC, MIN_EXP - 1) != 0
+                }
+                Setting::ReversiblePlanes(planes) => {
+                    zfp_stream_set_params(self.zfp, 1, MAX_BITS, planes, MIN_EXP - 1) != 0
                 }
             }
         };

@@ -16,6 +16,7 @@ mod ffi;
 pub mod libzfp;
 pub mod make;
 pub mod order;
+pub mod planes;
 pub mod report;
 pub mod run;
 pub mod slots;

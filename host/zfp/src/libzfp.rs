@@ -52,6 +52,8 @@ pub enum Setting {
     Reversible,
     /// Reversible mode cut after so many bits.
     ReversibleWithin(u32),
+    /// Reversible mode of at most so many planes.
+    ReversiblePlanes(u32),
 }
 
 /// The installed library.
@@ -88,6 +90,11 @@ impl Libzfp {
     /// The bits that libzfp writes for a block.
     pub fn encode(&self, shape: Shape, setting: Setting, words: &[u32]) -> Vec<bool> {
         encode(shape, setting, words)
+    }
+
+    /// The number of bits that libzfp writes for a block.
+    pub fn bits(&self, shape: Shape, setting: Setting, words: &[u32]) -> usize {
+        raw::encode(shape, setting, words).1
     }
 
     /// The words that libzfp reads from these bits, followed by zeros, and the bits that it took.

@@ -99,7 +99,7 @@ pub fn reordered(p: &Checked, bits: &[bool], orders: &Orders) -> Reordered {
     let Some(head) = Head::of(p, bits) else {
         return Reordered { bits: bits.to_vec(), taken: 1 };
     };
-    let coefficients = planes::read(&bits[head.len..], p.block_len(), head.planes);
+    let (coefficients, _) = planes::read(&bits[head.len..], p.block_len(), head.planes);
     let taken = head.len + planes::code(&coefficients, head.planes).len();
     let code = planes::code(&orders.to_libzfps(&coefficients), head.planes);
     Reordered { bits: [&bits[..head.len], &code, &bits[taken..]].concat(), taken }

@@ -67,6 +67,17 @@ pub fn writing(tally: &Tally) -> Vec<String> {
     with_classes(&titles, tally, Call::Write, |row| vec![row.blocks, row.codes_equal, row.counts_equal])
 }
 
+/// The lossy blocks or slots whose planes are libzfp's, of those of which libzfp was asked; a line for each kind.
+pub fn planes(tally: &Tally, call: Call) -> Vec<String> {
+    let line = |kind| {
+        let rows = tally.rows().filter(|row| row.0 == kind && row.1 == Mode::Lossy);
+        let asked = rows.map(|row| row.3.planes[call as usize]);
+        let numbers: Vec<String> = asked.map(|asked| format!("{} of {}", asked.equal, asked.times)).collect();
+        format!("{} {}", cells(kind, Mode::Lossy, 1)[0], numbers.join(", "))
+    };
+    [Kind::Integers, Kind::Floats].map(line).to_vec()
+}
+
 /// Slots read by both.
 pub fn reading(tally: &Tally) -> Vec<String> {
     let titles = ["by both", "by ours", "by libzfp", "damaged", "made", "words equal"];

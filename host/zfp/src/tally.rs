@@ -22,6 +22,15 @@ pub enum Origin {
 /// The number of origins.
 pub const ORIGINS: usize = 5;
 
+/// How often libzfp was asked for the planes that a lossy slot has whole.
+#[derive(Clone, Copy, Debug, Default, PartialEq, Eq)]
+pub struct Asked {
+    /// All times.
+    pub times: u64,
+    /// The times that it gave those which the proved library reports.
+    pub equal: u64,
+}
+
 /// What was seen of one kind, mode and dimension.
 #[derive(Clone, Debug, Default)]
 pub struct Row {
@@ -31,6 +40,8 @@ pub struct Row {
     pub codes_equal: u64,
     /// Blocks of whose codes both report the same number of bits.
     pub counts_equal: u64,
+    /// Planes asked for, by the call.
+    pub planes: [Asked; Call::ALL.len()],
     /// Slots read by both, by their origin.
     pub slots: [u64; ORIGINS],
     /// Slots that both read as the same words.
@@ -39,6 +50,13 @@ pub struct Row {
 }
 
 impl Row {
+    /// Notes whether libzfp gave the planes that were reported.
+    pub fn note_planes(&mut self, call: Call, same: bool) {
+        let asked = &mut self.planes[call as usize];
+        asked.times += 1;
+        asked.equal += u64::from(same);
+    }
+
     /// Notes the class of an outcome, if it is different.
     pub fn note(&mut self, call: Call, class: Option<Class>) {
         if let Some(class) = class {

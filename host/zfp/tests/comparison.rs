@@ -1,12 +1,13 @@
 //! The comparison with libzfp, for some seconds; for minutes with `WINDLASSOW_LONG=1`.
 
 use random::{Random, is_long};
+use reference::params::Mode;
 use reference::{Params, bits, planes};
 use zfp::bits::{bits_of, padded};
 use zfp::classes::{Call, Class};
 use zfp::compare::Comparison;
 use zfp::libzfp::{Libzfp, longest_code};
-use zfp::report::{orders, reading, writing};
+use zfp::report::{orders, planes as planes_asked, reading, writing};
 use zfp::run::run;
 use zfp::tally::Origin;
 use zfp::witness::WITNESSES;
@@ -23,11 +24,15 @@ fn none(failures: &[String]) {
     assert!(failures.is_empty(), "{} failures, the first: {}", failures.len(), failures[0]);
 }
 
-/// Every difference has a class, every class occurs where it is stated, and every block and slot is counted once.
+/// Every difference has a class, every class occurs where it is stated, and every block and slot is counted once. The planes
+/// of lossy blocks are libzfp's.
 fn is_explained(comparison: &Comparison) {
     none(&comparison.failures);
     none(&comparison.tally.complaints());
-    for (_, _, _, row) in comparison.tally.rows() {
+    for (_, mode, _, row) in comparison.tally.rows() {
+        for asked in row.planes {
+            assert_eq!((asked.equal, mode == Mode::Lossy), (asked.times, asked.times > 0));
+        }
         assert_eq!(row.codes_equal + row.differences(Call::Write), row.blocks);
         assert_eq!(row.words_equal + row.differences(Call::Read), row.slots.iter().sum::<u64>());
     }
@@ -45,6 +50,9 @@ fn every_difference_has_a_class() {
     is_explained(&comparison);
     is_reported(&writing(&comparison.tally));
     is_reported(&reading(&comparison.tally));
+    for call in Call::ALL {
+        is_reported(&planes_asked(&comparison.tally, call));
+    }
     is_reported(&orders(&comparison.lib));
     if is_long() {
         is_explained(&run(lib(), 2, 40));

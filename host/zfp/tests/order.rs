@@ -102,7 +102,7 @@ fn equal_coefficients_have_equal_codes() {
                     values(&mut random, c.block_len()).into_iter().map(|v| to_negabinary(v as u32)).collect();
                 let ours = block(&coefficients);
                 let libzfps = block(&comparison.lib.orders(dimension).to_ours(&coefficients));
-                let form = |words| code::encode(&c, words).into_iter().take(2);
+                let form = |words| code::encode(&c, words).bits.into_iter().take(2);
                 let overflows = scale_overflows(&ours) || scale_overflows(&libzfps);
                 if kind == FLOATS && (overflows || form(&ours).ne(form(&libzfps))) {
                     continue;

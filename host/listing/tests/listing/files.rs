@@ -31,7 +31,7 @@ fn from_a_file_to_a_file() {
 #[test]
 fn from_nothing() {
     let output = command().stdin(File::open("/dev/null").unwrap()).output().unwrap();
-    assert_eq!(String::from_utf8_lossy(&output.stdout), "0c0000\n");
+    assert_eq!(String::from_utf8_lossy(&output.stdout), "0c000000\n");
     assert!(output.stderr.is_empty());
 }
 
@@ -103,5 +103,5 @@ fn a_closed_input_is_complained_of() {
 #[test]
 fn a_bad_first_line_before_much_more() {
     let input = [&b"000101200031\r\n"[..], &vec![b'0'; 100 << 20]].concat();
-    assert_eq!(through_pipe(&input).stdout, b"0c0000\n");
+    assert_eq!(through_pipe(&input).stdout, b"0c000000\n");
 }

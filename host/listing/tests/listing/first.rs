@@ -10,39 +10,50 @@ const ONES: &str = "00000001000000010000000100000001\n";
 #[test]
 fn document_01s_example() {
     let input = "000101200030\n00000001000000010000000100000001\naaaaaaab55555556aaaaaaac55555558\n";
-    lists(input.as_bytes(), "0000271f0000003000\n0a0088\n");
+    lists(input.as_bytes(), "000027201f0000003000\n0a008800\n");
+}
+
+/// Lossy integers in slots of 32 bits. 1 2 3 4 has 29 planes of a bit each and then 110, which ends there: 30 planes. 0 0 0 16
+/// has 28 and then 1011.., which is cut: 28 planes. Document 02's own lines are in the example above.
+#[test]
+fn the_planes_stand_after_the_count() {
+    let input = "000100200020\n00000001000000020000000300000004\n00000000000000000000000000000010\n0\n";
+    lists(input.as_bytes(), "0000201e00000060\n0000201c000000d0\n0c000000\n");
+    // Four times 1.0 in 16 bits: 1 00000001, then 0, 110 and 10, and a bit of the fourth plane; zeros; an infinity.
+    let floats = ["3f800000".repeat(4), "80000000".repeat(4), "7f800000".repeat(4)].join("\n");
+    lists(format!("010100200010\n{floats}\n").as_bytes(), "00001003012d\n000001000000\n09000000\n");
 }
 
 #[test]
 fn no_lines_and_only_a_first_line() {
-    lists(b"", "0c0000\n");
-    lists(b"\n", "0c0000\n");
+    lists(b"", "0c000000\n");
+    lists(b"\n", "0c000000\n");
     lists(GOOD.as_bytes(), "");
-    lists(GOOD.trim_end().as_bytes(), "0c0000\n");
-    lists((GOOD.to_string() + "\n").as_bytes(), "0c0000\n");
-    lists((GOOD.to_string() + "0").as_bytes(), "0c0000\n");
+    lists(GOOD.trim_end().as_bytes(), "0c000000\n");
+    lists((GOOD.to_string() + "\n").as_bytes(), "0c000000\n");
+    lists((GOOD.to_string() + "0").as_bytes(), "0c000000\n");
 }
 
 #[test]
 fn refused_first_lines_stop_the_program() {
     for (first, answer) in [
-        ("020000000001", "010000\n"),
-        ("010000000001", "020000\n"),
-        ("010500000001", "020000\n"),
-        ("000102000001", "030000\n"),
-        ("000101000001", "040000\n"),
-        ("000100210030", "040000\n"),
-        ("000101200001", "050000\n"),
-        ("00010120000f", "050000\n"),
-        ("00010120210f", "050000\n"),
-        ("00050120210f", "020000\n"),
-        ("00040120210f", "050000\n"),
-        ("ffffffffffff", "010000\n"),
+        ("020000000001", "01000000\n"),
+        ("010000000001", "02000000\n"),
+        ("010500000001", "02000000\n"),
+        ("000102000001", "03000000\n"),
+        ("000101000001", "04000000\n"),
+        ("000100210030", "04000000\n"),
+        ("000101200001", "05000000\n"),
+        ("00010120000f", "05000000\n"),
+        ("00010120210f", "05000000\n"),
+        ("00050120210f", "02000000\n"),
+        ("00040120210f", "05000000\n"),
+        ("ffffffffffff", "01000000\n"),
     ] {
         lists(format!("{first}\n{ONES}{ONES}").as_bytes(), answer);
         // Row 12 comes before the others.
-        lists(first.as_bytes(), "0c0000\n");
-        lists(format!("{first}\r\n{ONES}").as_bytes(), "0c0000\n");
+        lists(first.as_bytes(), "0c000000\n");
+        lists(format!("{first}\r\n{ONES}").as_bytes(), "0c000000\n");
     }
 }
 
@@ -51,11 +62,11 @@ fn first_lines_of_other_lengths() {
     for length in 0..if is_long() { 2_000 } else { 150usize } {
         if length != 12 {
             let line = "000101200030".repeat(length.div_ceil(12))[..length].to_string();
-            lists(format!("{line}\n{ONES}").as_bytes(), "0c0000\n");
+            lists(format!("{line}\n{ONES}").as_bytes(), "0c000000\n");
         }
     }
     for first in ["00010120003", "0001012000300", "0001012000300000"] {
-        lists(format!("{first}\n{GOOD}{ONES}").as_bytes(), "0c0000\n");
+        lists(format!("{first}\n{GOOD}{ONES}").as_bytes(), "0c000000\n");
     }
 }
 
@@ -65,7 +76,7 @@ fn first_lines_with_a_wrong_byte() {
         for &byte in WRONG {
             let mut input = format!("{GOOD}{ONES}").into_bytes();
             input[place] = byte;
-            lists(&input, "0c0000\n");
+            lists(&input, "0c000000\n");
         }
     }
     for byte in 0..=255 {

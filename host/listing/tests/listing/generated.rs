@@ -6,12 +6,15 @@ use random::{Random, is_long};
 use std::ops::Range;
 use testing::Answers;
 
+/// The numbers that stand at these digits of the lines that are expected for an input.
+fn numbers(input: &[u8], digits: Range<usize>) -> Vec<u32> {
+    let output = String::from_utf8(reference::listing(input)).unwrap();
+    output.lines().map(|line| u32::from_str_radix(&line[digits.clone()], 16).unwrap()).collect()
+}
+
 /// Counts the answers that are expected for an input.
 fn count(answers: &mut Answers, input: &[u8]) {
-    for line in reference::listing(input).split(|&byte| byte == b'\n').filter(|line| !line.is_empty()) {
-        let number = std::str::from_utf8(&line[..2]).unwrap();
-        answers.count(u32::from_str_radix(number, 16).unwrap());
-    }
+    numbers(input, 0..2).into_iter().for_each(|answer| answers.count(answer));
 }
 
 fn generated(seeds: Range<u64>, most: usize) -> Answers {
@@ -38,11 +41,13 @@ fn inputs_of_all_sorts() {
     answers.must_include(&[0, 1, 2, 3, 4, 5, 9, 10, 12]);
 }
 
-/// Every kind, mode and dimension at every width of the table.
+/// Every kind, mode and dimension at every width of the table. Of lossy blocks every number of
+/// planes is listed.
 #[test]
 fn every_kind_mode_dimension_and_width() {
     let mut random = Random::new(2);
     let mut answers = Answers::none();
+    let mut planes = [false; 33];
     let rounds = if is_long() { 60 } else { 1 };
     for case in 0..16 * WIDTHS.len() * rounds {
         let first = First {
@@ -58,8 +63,12 @@ fn every_kind_mode_dimension_and_width() {
         (0..10).for_each(|_| input.extend(any_line(&mut random, first)));
         compare(&input);
         count(&mut answers, &input);
+        if first.mode == 0 {
+            numbers(&input, 6..8).into_iter().for_each(|number| planes[number as usize] = true);
+        }
     }
     answers.must_include(&[0, 9, 10, 12]);
+    assert!(!planes.contains(&false), "some number of planes was not listed: {planes:?}");
 }
 
 /// Every byte at every place of a block's line, its newline too, in the larger dimensions 16 bytes or one at each place. All

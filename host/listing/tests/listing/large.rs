@@ -89,5 +89,5 @@ fn a_length_that_a_counter_of_32_bits_would_take_for_a_good_one() {
     wait_for(&mut child, Duration::from_secs(60)).unwrap();
     let mut output = String::new();
     child.stdout.unwrap().read_to_string(&mut output).unwrap();
-    assert_eq!(output, "0c0000\n0000271f0000003000\n");
+    assert_eq!(output, "0c000000\n000027201f0000003000\n");
 }

@@ -36,7 +36,7 @@ fn peak_over(dimension: u32, megabytes: usize, piece: &[u8]) -> (u64, String) {
 fn one_line_of_64_megabytes() {
     for dimension in [1, 4] {
         let (peak, last) = peak_over(dimension, 64, b"0");
-        assert_eq!(last, "0c0000\n");
+        assert_eq!(last, "0c000000\n");
         assert!(peak < MOST_KIB, "the program held {peak} KiB");
     }
 }
@@ -47,7 +47,7 @@ fn half_a_million_lines() {
     for dimension in 1..=4 {
         let line = "00000001".repeat(4usize.pow(dimension)) + "\n";
         let (peak, last) = peak_over(dimension, 16, line.as_bytes());
-        assert!(last.ends_with("\n0000271f0000003000\n"));
+        assert!(last.ends_with("\n000027201f0000003000\n"));
         assert!(peak < MOST_KIB, "the program held {peak} KiB");
     }
 }

@@ -25,7 +25,7 @@ fn document_01s_example_comes_first() {
     let (input, output) = sample("blocks");
     let example = "000101200030\n00000001000000010000000100000001\naaaaaaab55555556aaaaaaac55555558\n";
     assert!(input.starts_with(example));
-    assert!(output.starts_with("0000271f0000003000\n0a0088\n"));
+    assert!(output.starts_with("000027201f0000003000\n0a008800\n"));
 }
 
 /// Four +0, four times 1.0 and four -0 in samples/floats.txt: P6, P5 and P6 again.
@@ -33,12 +33,13 @@ fn document_01s_example_comes_first() {
 fn the_floats_of_the_papers_table() {
     let (input, output) = sample("floats");
     let lines: Vec<_> = input.lines().skip(1).zip(output.lines()).collect();
-    assert_eq!(lines[0], (&*"0".repeat(32), &*format!("000001{}", "0".repeat(38))));
-    // 10 00000001 01000 0 110 10, the lowest bit of each byte first, and zeros up to 146 bits.
-    assert_eq!(lines[1], (&*"3f800000".repeat(4), &*format!("000015010a0b{}", "0".repeat(32))));
-    // 1 1 are the lowest two bits of the first byte.
+    assert_eq!(lines[0], (&*"0".repeat(32), &*format!("00000100{}", "0".repeat(38))));
+    // 10 00000001 01000 0 110 10, the lowest bit of each byte first, and zeros up to 146 bits; 3 planes.
+    assert_eq!(lines[1], (&*"3f800000".repeat(4), &*format!("00001503010a0b{}", "0".repeat(32))));
+    // 42 bits, 32 planes; 1 1 are the lowest two bits of the first byte.
     assert_eq!(lines[2].0, "80000000".repeat(4));
-    assert!(["3", "7", "b", "f"].contains(&&lines[2].1[7..8]));
+    assert!(lines[2].1.starts_with("00002a20"));
+    assert!(["3", "7", "b", "f"].contains(&&lines[2].1[9..10]));
 }
 
 /// 64 and 256 times 4.5, the first blocks of samples/cubes.txt and samples/stacks.txt: e is 130, the integer 9 x 2^26, which
@@ -49,7 +50,7 @@ fn equal_readings_of_a_cube_and_of_a_stack() {
         let (input, output) = sample(name);
         assert_eq!(input.lines().nth(1), Some(&*"40900000".repeat(words)));
         // 10 01000001 10100 0 110 10 00 00 10, 27 bits, the lowest bit of each byte first.
-        assert_eq!(output.lines().next(), Some(&*format!("00001b09160b02{}", "00".repeat(bytes - 4))));
+        assert_eq!(output.lines().next(), Some(&*format!("00001b0609160b02{}", "00".repeat(bytes - 4))));
     }
 }
 
@@ -65,6 +66,6 @@ fn the_picture_in_the_readme() {
         part.lines().take_while(|line| *line != "```").map(fields).collect()
     };
     let expected = lines(&format!("out{output}"));
-    assert_eq!(expected, "0000271f0000003000\n0a0088\n0c0000\n");
+    assert_eq!(expected, "000027201f0000003000\n0a008800\n0c000000\n");
     assert_eq!(String::from_utf8(through_pipe(lines(input).as_bytes()).stdout).unwrap(), expected);
 }

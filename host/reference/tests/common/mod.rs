@@ -2,19 +2,32 @@
 #![allow(dead_code, unused_imports)]
 
 pub use random::Random;
-use reference::{Params, Reply};
+use reference::{FpcReply, Params, Reply};
 pub use testing::{EXACT, FLOATS, INTEGERS, LOSSY, bits, by_hand};
 
 pub fn params(kind: u32, dimension: u32, mode: u32, planes: u32, width: u32) -> Params {
     Params { kind, dimension, mode, planes, width }
 }
 
-pub fn done(count: u32) -> Reply {
-    Reply { answer: 0, count }
+pub fn done(count: u32, planes: u32) -> Reply {
+    Reply { answer: 0, count, planes }
 }
 
 pub fn refused(answer: u32) -> Reply {
-    Reply { answer, count: 0 }
+    Reply { answer, count: 0, planes: 0 }
+}
+
+/// Answer 10, with the bits that the code needs.
+pub fn too_long(count: u32) -> Reply {
+    Reply { answer: 10, count, planes: 0 }
+}
+
+pub fn fpc_done(count: u32) -> FpcReply {
+    FpcReply { answer: 0, count }
+}
+
+pub fn fpc_refused(answer: u32) -> FpcReply {
+    FpcReply { answer, count: 0 }
 }
 
 /// Stores in a buffer of zeros that has just room for the slot, and gives the slot's bits too.

@@ -1,17 +1,24 @@
 //! What both comparisons use.
-#![allow(unused_imports)]
+#![allow(dead_code, unused_imports)]
 
 pub use random::{Random, is_long, rounds};
-use reference::Reply;
+use reference::{FpcReply, Reply};
 pub use testing::{Answers, EXACT, FLOATS, Guarded, INTEGERS, LOSSY};
-use windlassow::Refusal;
+use windlassow::{Done, Refusal};
 
-/// The outcome of the library's call in the shape of the reference's.
-pub fn reply(outcome: Result<usize, Refusal>) -> Reply {
+/// The outcome of the library's slot call in the shape of the reference's. The interface sees to it that a refusal reports 0
+/// planes, and the slot count too.
+pub fn reply(outcome: Result<Done, Refusal>) -> Reply {
     match outcome {
-        Ok(count) => Reply { answer: 0, count: count as u32 },
-        Err(refusal) => {
-            Reply { answer: refusal.number(), count: refusal.needed().unwrap_or_default() as u32 }
-        }
+        Ok(Done { count, planes }) => Reply::done(count, planes),
+        Err(refusal) => Reply::needs(refusal.number(), refusal.needed().unwrap_or_default()),
+    }
+}
+
+/// The same of an FPC call.
+pub fn fpc_reply(outcome: Result<usize, Refusal>) -> FpcReply {
+    match outcome {
+        Ok(count) => FpcReply::done(count),
+        Err(refusal) => FpcReply::needs(refusal.number(), refusal.needed().unwrap_or_default()),
     }
 }

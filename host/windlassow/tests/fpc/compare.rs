@@ -1,7 +1,7 @@
 //! Both calls on the same input, and what must hold of their outcome.
 
 use crate::common::*;
-use reference::Reply;
+use reference::FpcReply;
 use reference::fpc::stream_of;
 
 pub const SIZES: [usize; 7] = [16, 32, 64, 128, 256, 512, 1024];
@@ -12,14 +12,14 @@ pub fn lent_table(random: &mut Random, len: usize) -> Vec<u64> {
 }
 
 /// Writes with both and compares reply, output and tables. Gives the reply.
-pub fn compare_write(random: &mut Random, sizes: (usize, usize), run: &[u64], room: usize) -> Reply {
+pub fn compare_write(random: &mut Random, sizes: (usize, usize), run: &[u64], room: usize) -> FpcReply {
     let (f, d) = (lent_table(random, sizes.0), lent_table(random, sizes.1));
     let out = random.bytes(room);
     let (mut f1, mut d1, mut out1) = (f.clone(), d.clone(), out.clone());
     let expected = reference::fpc_write(&mut f1, &mut d1, run, &mut out1);
     let (mut f2, mut d2, mut out2) = (Guarded::new(&f, 1), Guarded::new(&d, 2), Guarded::new(&out, 3));
     let lent = Guarded::new(run, 4);
-    let given = reply(windlassow::fpc_write(&mut f2, &mut d2, &lent, &mut out2));
+    let given = fpc_reply(windlassow::fpc_write(&mut f2, &mut d2, &lent, &mut out2));
     assert_eq!(given, expected, "tables of {sizes:?}, room {room}, run {}", shown(run));
     assert!(*out2 == *out1, "output: tables of {sizes:?}, room {room}, run {}", shown(run));
     assert!(*f2 == *f1 && *d2 == *d1, "tables of {sizes:?}, room {room}, run {}", shown(run));
@@ -38,7 +38,7 @@ pub fn compare_read(
     sizes: (usize, usize),
     stream: &[u8],
     room: usize,
-) -> (Reply, Vec<u64>) {
+) -> (FpcReply, Vec<u64>) {
     let (f, d) = (lent_table(random, sizes.0), lent_table(random, sizes.1));
     let doubles: Vec<u64> = (0..room).map(|_| random.bits()).collect();
     let (mut f1, mut d1, mut doubles1) = (f.clone(), d.clone(), doubles.clone());
@@ -46,7 +46,7 @@ pub fn compare_read(
     let (mut f2, mut d2, mut doubles2) =
         (Guarded::new(&f, 1), Guarded::new(&d, 2), Guarded::new(&doubles, 3));
     let lent = Guarded::new(stream, 4);
-    let given = reply(windlassow::fpc_read(&mut f2, &mut d2, &lent, &mut doubles2));
+    let given = fpc_reply(windlassow::fpc_read(&mut f2, &mut d2, &lent, &mut doubles2));
     let start = &stream[..stream.len().min(64)];
     assert_eq!(given, expected, "tables of {sizes:?}, room {room}, {} bytes {start:x?}", stream.len());
     assert!(*doubles2 == *doubles1, "doubles: tables of {sizes:?}, room {room}, bytes {start:x?}");
@@ -73,9 +73,9 @@ pub fn compare_both(random: &mut Random, size: usize, run: &[u64]) -> Vec<u8> {
     let (stream, _) = stream_of(size, run);
     let spare = random.below(4);
     let wrote = compare_write(random, (size, size), run, stream.len() + spare);
-    assert_eq!(wrote, Reply { answer: 0, count: stream.len() as u32 });
+    assert_eq!(wrote, FpcReply { answer: 0, count: stream.len() as u32 });
     let (read, doubles) = compare_read(random, (size, size), &stream, run.len() + spare);
-    assert_eq!(read, Reply { answer: 0, count: run.len() as u32 });
+    assert_eq!(read, FpcReply { answer: 0, count: run.len() as u32 });
     assert_eq!(doubles[..run.len()], *run);
     stream
 }

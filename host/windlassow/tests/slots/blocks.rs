@@ -155,13 +155,15 @@ fn every_count_of_exact_planes() {
         for planes in 1..=32 {
             let top = u32::MAX << (32 - planes);
             for _ in 0..rounds_in(dimension, 40) {
-                let coefficients: Vec<u32> = match random.below(3) {
+                let case = random.below(3);
+                let coefficients: Vec<u32> = match case {
                     0 => vec![top; n],
                     1 => (0..n).map(|_| random.word() & top).collect(),
                     _ => (0..n).map(|_| random.word() >> random.below(32) & top).collect(),
                 };
                 let words = transform::from_coefficients(&coefficients, dimension, transform::sums);
-                compare_all(&p, &vec![0; 5 * n], 0, &words);
+                let reply = compare_all(&p, &vec![0; 5 * n], 0, &words);
+                assert!(reply.planes <= planes && (case != 0 || reply.planes == planes), "{words:x?}");
             }
         }
     }

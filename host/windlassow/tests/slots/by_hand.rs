@@ -1,28 +1,30 @@
 //! Outcomes worked out by hand from document 01, on the library alone.
 
 use testing::{bits, by_hand};
-use windlassow::{Params, Refusal, bit_count, read, slot_count, store};
+use windlassow::{Done, Params, Refusal, bit_count, read, slot_count, store};
 
 const ONE: u32 = 0x3F80_0000;
 
-/// Stores in slot 0 of an archive of ones. The count is the length of this code, and the slot is the code and then
-/// zeros. Gives the archive.
-fn stores(p: Params, words: &[u32], code: &str) -> Vec<u8> {
+/// Stores in slot 0 of an archive of ones. The count is the length of this code, of which so many planes are whole, and the
+/// slot is the code and then zeros. Gives the archive.
+fn stores(p: Params, words: &[u32], code: &str, planes: u32) -> Vec<u8> {
     let width = p.width() as usize;
     let mut archive = vec![0xFF; width.div_ceil(8)];
     let mut expected = bits(code);
-    assert_eq!(store(p, &mut archive, 0, words), Ok(expected.len()), "{words:x?}");
+    let done = Done { count: expected.len(), planes };
+    assert_eq!(store(p, &mut archive, 0, words), Ok(done), "{words:x?}");
+    assert_eq!(bit_count(p, words), Ok(done), "{words:x?}");
     expected.resize(width, false);
     let slot: Vec<bool> = (0..width).map(|t| archive[t / 8] >> (t % 8) & 1 == 1).collect();
     assert_eq!(slot, expected, "{words:x?}");
     archive
 }
 
-/// The same, and the slot reads as these words.
-fn stores_and_reads(p: Params, words: &[u32; 4], code: &str, back: [i32; 4]) {
-    let archive = stores(p, words, code);
+/// The same, and the slot reads as these words, with as many planes.
+fn stores_and_reads(p: Params, words: &[u32; 4], code: &str, planes: u32, back: [i32; 4]) {
+    let archive = stores(p, words, code, planes);
     let mut read_back = [9; 4];
-    assert_eq!(read(p, &archive, 0, &mut read_back), Ok(4));
+    assert_eq!(read(p, &archive, 0, &mut read_back), Ok(Done { count: 4, planes }));
     assert_eq!(read_back.map(|word| word as i32), back, "width {} planes {}", p.width(), p.planes());
 }
 
@@ -31,10 +33,10 @@ fn stores_and_reads(p: Params, words: &[u32; 4], code: &str, back: [i32; 4]) {
 fn equal_integers_of_p8() {
     let p = Params::from_numbers(0, 1, 1, 32, 64);
     let zeros = |count| "0".repeat(count);
-    stores(p, &[-1i32 as u32; 4], &format!("11111 {} 110 10", zeros(30)));
-    stores(p, &[1; 4], &format!("11111 {} 110", zeros(31)));
-    stores(p, &[2; 4], &format!("01111 {} 110 10", zeros(29)));
-    stores(p, &[-2i32 as u32; 4], &format!("01111 {} 110", zeros(30)));
+    stores(p, &[-1i32 as u32; 4], &format!("11111 {} 110 10", zeros(30)), 32);
+    stores(p, &[1; 4], &format!("11111 {} 110", zeros(31)), 32);
+    stores(p, &[2; 4], &format!("01111 {} 110 10", zeros(29)), 31);
+    stores(p, &[-2i32 as u32; 4], &format!("01111 {} 110", zeros(30)), 31);
 }
 
 /// The value of place i + 4j + .. is one of the indices. Its one coefficient other than 0 is a 1 at place 1, 4, 16 or 64,
@@ -46,7 +48,7 @@ fn columns_are_next_to_each_other() {
         for axis in 0..dimension as usize {
             let block: Vec<u32> =
                 (0..4usize.pow(dimension)).map(|place| by_hand::indices(place)[axis] as u32).collect();
-            stores(p, &block, &format!("11111 {} 1 {} 10", "0".repeat(31), "0".repeat(axis + 1)));
+            stores(p, &block, &format!("11111 {} 1 {} 10", "0".repeat(31), "0".repeat(axis + 1)), 32);
         }
     }
 }
@@ -57,7 +59,7 @@ fn the_order_of_coefficients() {
     for dimension in 1..=4 {
         let p = Params::from_numbers(0, dimension, 1, 32, 300);
         for (number, place) in by_hand::order(dimension) {
-            stores(p, &by_hand::single(dimension, place), &by_hand::single_code(dimension, number));
+            stores(p, &by_hand::single(dimension, place), &by_hand::single_code(dimension, number), 32);
         }
     }
 }
@@ -68,12 +70,12 @@ fn the_longest_integer_block() {
     for (dimension, needed) in [(1, 136), (2, 532), (3, 2_116), (4, 8_452)] {
         let p = Params::from_numbers(0, dimension, 1, 32, needed as u32);
         let block = by_hand::longest(dimension);
-        let mut archive = stores(p, &block, &"1".repeat(needed));
+        let mut archive = stores(p, &block, &"1".repeat(needed), 32);
         let narrow = p.with_width(needed as u32 - 1);
         assert_eq!(store(narrow, &mut archive, 0, &block), Err(Refusal::CodeTooLong { bits: needed }));
-        assert_eq!(bit_count(narrow, &block), Ok(needed));
+        assert_eq!(bit_count(narrow, &block), Ok(Done { count: needed, planes: 32 }));
         let mut back = vec![9; block.len()];
-        assert_eq!(read(p, &archive, 0, &mut back), Ok(block.len()));
+        assert_eq!(read(p, &archive, 0, &mut back), Ok(Done { count: block.len(), planes: 32 }));
         assert_eq!(back, block);
     }
 }
@@ -84,7 +86,7 @@ fn one_word_of_a_cube_and_of_a_stack() {
         let mut block = vec![0; 4usize.pow(dimension)];
         block[0] = 1;
         let p = Params::from_numbers(0, dimension, 1, 32, 1024);
-        stores(p, &block, &by_hand::first_word_code(dimension));
+        stores(p, &block, &by_hand::first_word_code(dimension), 32);
     }
 }
 
@@ -94,12 +96,12 @@ fn axis_by_axis_from_i_on_and_back() {
     for dimension in 2..=4 {
         let p = Params::from_numbers(0, dimension, 0, 32, 64);
         for axis in 0..dimension as usize - 1 {
-            stores(p, &by_hand::axes_block(dimension, axis), &by_hand::axes_code(axis));
+            stores(p, &by_hand::axes_block(dimension, axis), &by_hand::axes_code(axis), 32);
             let (code, block) = by_hand::axes_slot(dimension, axis);
             let mut archive = [0; 8];
             bits(&code).iter().enumerate().for_each(|(t, &bit)| archive[t / 8] |= u8::from(bit) << (t % 8));
             let mut words = vec![9; block.len()];
-            assert_eq!(read(p, &archive, 0, &mut words), Ok(block.len()));
+            assert_eq!(read(p, &archive, 0, &mut words), Ok(Done { count: block.len(), planes: 32 }));
             let words: Vec<i32> = words.into_iter().map(|word| word as i32).collect();
             assert_eq!(words, block, "dimension {dimension}, axis {axis}");
         }
@@ -113,16 +115,16 @@ fn lossy_integers_cut_by_planes_and_by_the_budget() {
     let p = |planes, width| Params::from_numbers(0, 1, 0, planes, width);
     let block = [1, 2, 3, 4];
     let empty = "0".repeat(29);
-    stores_and_reads(p(32, 64), &block, &format!("{empty} 110 1110 010"), [0, 2, 2, 4]);
-    stores_and_reads(p(31, 64), &block, &format!("{empty} 110 1110"), [-1, 1, 3, 5]);
-    stores_and_reads(p(30, 64), &block, &format!("{empty} 110"), [4, 4, 4, 4]);
-    stores_and_reads(p(32, 36), &block, &format!("{empty} 110 1110"), [-1, 1, 3, 5]);
-    // The last test is not read, and would have been 0.
-    stores_and_reads(p(32, 35), &block, &format!("{empty} 110 111"), [-1, 1, 3, 5]);
+    stores_and_reads(p(32, 64), &block, &format!("{empty} 110 1110 010"), 32, [0, 2, 2, 4]);
+    stores_and_reads(p(31, 64), &block, &format!("{empty} 110 1110"), 31, [-1, 1, 3, 5]);
+    stores_and_reads(p(30, 64), &block, &format!("{empty} 110"), 30, [4, 4, 4, 4]);
+    stores_and_reads(p(32, 36), &block, &format!("{empty} 110 1110"), 31, [-1, 1, 3, 5]);
+    // The last test is not read, and would have been 0. The words are the same, but the plane is not whole.
+    stores_and_reads(p(32, 35), &block, &format!("{empty} 110 111"), 30, [-1, 1, 3, 5]);
     // A scan cut before its one sets no bit.
-    stores_and_reads(p(32, 34), &block, &format!("{empty} 110 11"), [2, 2, 2, 2]);
-    stores_and_reads(p(32, 33), &block, &format!("{empty} 110 1"), [2, 2, 2, 2]);
-    stores_and_reads(p(32, 32), &block, &format!("{empty} 110"), [4, 4, 4, 4]);
+    stores_and_reads(p(32, 34), &block, &format!("{empty} 110 11"), 30, [2, 2, 2, 2]);
+    stores_and_reads(p(32, 33), &block, &format!("{empty} 110 1"), 30, [2, 2, 2, 2]);
+    stores_and_reads(p(32, 32), &block, &format!("{empty} 110"), 30, [4, 4, 4, 4]);
 }
 
 /// 0 0 0 16 lifts to 4 -5 -4 2, in negabinary 4 15 12 6. No coefficient is 0, so each step of reading matters. Here it
@@ -131,7 +133,7 @@ fn lossy_integers_cut_by_planes_and_by_the_budget() {
 fn a_lossy_block_that_comes_back() {
     let p = Params::from_numbers(0, 1, 0, 32, 64);
     let code = format!("{} 101110 1111 0101 0100", "0".repeat(28));
-    stores_and_reads(p, &[0, 0, 0, 16], &code, [0, 0, 0, 16]);
+    stores_and_reads(p, &[0, 0, 0, 16], &code, 32, [0, 0, 0, 16]);
 }
 
 /// 0 1 5 18 has the differences 0 1 3 6, in negabinary 0 1 7 26.
@@ -139,7 +141,7 @@ fn a_lossy_block_that_comes_back() {
 fn differences_up_to_the_third() {
     let p = Params::from_numbers(0, 1, 1, 32, 64);
     let code = format!("11111 {} 1000 0001 0010 0011 0110", "0".repeat(27));
-    stores_and_reads(p, &[0, 1, 5, 18], &code, [0, 1, 5, 18]);
+    stores_and_reads(p, &[0, 1, 5, 18], &code, 32, [0, 1, 5, 18]);
 }
 
 /// Four times 1.0: e is 128, the integers are 2^29, the planes as in P5. The head's 9 bits are part of the width.
@@ -147,13 +149,14 @@ fn differences_up_to_the_third() {
 fn lossy_floats_have_a_head_of_9_bits() {
     let p = |planes, width| Params::from_numbers(1, 1, 0, planes, width);
     let ones = [ONE as i32; 4];
-    stores_and_reads(p(3, 64), &[ONE; 4], "1 00000001 0 110 10", ones);
-    stores_and_reads(p(32, 16), &[ONE; 4], "1 00000001 0 110 10 0", ones);
-    stores_and_reads(p(32, 64), &[ONE; 4], &format!("1 00000001 0 110 10 {}", "0".repeat(49)), ones);
-    stores_and_reads(p(32, 64), &[0x8000_0000, 0, 0, 0x8000_0000], "0", [0; 4]);
+    stores_and_reads(p(3, 64), &[ONE; 4], "1 00000001 0 110 10", 3, ones);
+    stores_and_reads(p(32, 16), &[ONE; 4], "1 00000001 0 110 10 0", 3, ones);
+    // After the three planes 49 bits are left: 24 planes of two bits, and a bit.
+    stores_and_reads(p(32, 64), &[ONE; 4], &format!("1 00000001 0 110 10 {}", "0".repeat(49)), 27, ones);
+    stores_and_reads(p(32, 64), &[0x8000_0000, 0, 0, 0x8000_0000], "0", 0, [0; 4]);
     // After a first bit 0 the rest is not looked at.
     let mut words = [9; 4];
-    assert_eq!(read(p(32, 16), &[0xFE, 0xFF], 0, &mut words), Ok(4));
+    assert_eq!(read(p(32, 16), &[0xFE, 0xFF], 0, &mut words), Ok(Done { count: 4, planes: 0 }));
     assert_eq!(words, [0; 4]);
 }
 
@@ -182,7 +185,7 @@ fn the_form_with_e_is_for_whole_multiples() {
 #[test]
 fn minus_zeros_are_flipped_to_minus_ones() {
     let p = Params::from_numbers(1, 1, 1, 32, 146);
-    stores(p, &[0x8000_0000; 4], &format!("11 11111 {} 110 10", "0".repeat(30)));
+    stores(p, &[0x8000_0000; 4], &format!("11 11111 {} 110 10", "0".repeat(30)), 32);
 }
 
 #[test]

@@ -1,8 +1,9 @@
 //! Both calls on the same input, and what must hold of their outcome.
 
 use crate::common::*;
+use crate::cuts::{planes_of, slot_bits};
 use reference::{Params, Reply, bits};
-use windlassow::{MAX_WIDTH, MIN_WIDTH};
+use windlassow::{Done, MAX_WIDTH, MIN_WIDTH};
 
 pub const NO_WORD: u32 = 0xDEAD_BEEF;
 
@@ -34,7 +35,8 @@ pub fn ours(p: &Params) -> windlassow::Params {
 }
 
 /// Stores with both, compares the whole of the archives, and looks at the rules that need no comparison: a
-/// refused store changes nothing, a done one only its own slot. Gives the reply and the archive after it.
+/// refused store changes nothing, a done one only its own slot, and the planes can be told from the slot. Gives the reply
+/// and the archive after it.
 pub fn compare_store(p: &Params, archive: &[u8], slot: usize, words: &[u32]) -> (Reply, Vec<u8>) {
     let mut expected = archive.to_vec();
     let reply_expected = reference::store(p, &mut expected, slot, words);
@@ -48,6 +50,7 @@ pub fn compare_store(p: &Params, archive: &[u8], slot: usize, words: &[u32]) -> 
         assert!(buffer.is_unchanged(), "a refused store changed the archive");
     } else {
         only_the_slot_changed(archive, &buffer, slot * width_of(p), width_of(p));
+        assert_eq!(given.planes, planes_of(p, &slot_bits(p, &buffer, slot)), "planes {p:?} words {words:x?}");
     }
     (given, expected)
 }
@@ -64,7 +67,7 @@ pub fn only_the_slot_changed(before: &[u8], after: &[u8], start: usize, width: u
     assert!(before[end.div_ceil(8)..] == after[end.div_ceil(8)..]);
 }
 
-/// Reads with both into buffers of that length, compares reply and words.
+/// Reads with both into buffers of that length, compares reply and words. The planes can be told from the slot.
 pub fn compare_read(p: &Params, archive: &[u8], slot: usize, len: usize) -> (Reply, Vec<u32>) {
     let mut expected = vec![NO_WORD; len];
     let reply_expected = reference::read(p, archive, slot, &mut expected);
@@ -74,6 +77,10 @@ pub fn compare_read(p: &Params, archive: &[u8], slot: usize, len: usize) -> (Rep
     assert_eq!(given, reply_expected, "read {p:?} slot {slot} {}", shown_slot(p, archive, slot));
     assert!(*buffer == *expected, "words of read {p:?} slot {slot} {}", shown_slot(p, archive, slot));
     assert!(buffer.is_intact() && lent.is_unchanged());
+    if given.answer == 0 {
+        let shown = || shown_slot(p, archive, slot);
+        assert_eq!(given.planes, planes_of(p, &slot_bits(p, archive, slot)), "planes {p:?} {}", shown());
+    }
     (given, expected)
 }
 
@@ -87,21 +94,26 @@ pub fn shown_slot(p: &Params, archive: &[u8], slot: usize) -> String {
 }
 
 pub fn compare_counts(p: &Params, archive: &[u8], words: &[u32]) -> [Reply; 2] {
-    let slots = reply(windlassow::slot_count(ours(p), archive));
+    let slots = windlassow::slot_count(ours(p), archive).map(|count| Done { count, planes: 0 });
+    let slots = reply(slots);
     assert_eq!(slots, reference::slot_count(p, archive), "slot count {p:?} of {} bytes", archive.len());
     let bits = reply(windlassow::bit_count(ours(p), words));
     assert_eq!(bits, reference::bit_count(p, words), "bit count {p:?} words {words:x?}");
     [slots, bits]
 }
 
-/// A store, the bit count and the read of what was stored. An exact block must come back.
+/// A store, the bit count and the read of what was stored. An exact block must come back, and all three have the same planes.
 pub fn compare_all(p: &Params, archive: &[u8], slot: usize, words: &[u32]) -> Reply {
     let (stored, after) = compare_store(p, archive, slot, words);
     let [_, counted] = compare_counts(p, archive, words);
     if stored.answer == 0 || stored.answer == 10 {
         assert_eq!(counted.count, stored.count, "bit count and store differ: {p:?} {words:x?}");
     }
-    let (_, back) = compare_read(p, &after, slot, words.len());
+    let (given, back) = compare_read(p, &after, slot, words.len());
+    if stored.answer == 0 {
+        assert_eq!(counted.planes, stored.planes, "planes of bit count and store differ: {p:?} {words:x?}");
+        assert_eq!(given.planes, stored.planes, "planes of read and store differ: {p:?} {words:x?}");
+    }
     if p.mode == EXACT && stored.answer == 0 {
         assert_eq!(back, words, "an exact block came back otherwise: {p:?}");
     }

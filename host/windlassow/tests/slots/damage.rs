@@ -51,7 +51,7 @@ fn many_damaged_bits() {
 }
 
 /// A slot that begins with the bits of a head, then has few or many ones, then perhaps zeros.
-fn random_slot(random: &mut Random, p: &Params) -> Vec<u8> {
+pub fn random_slot(random: &mut Random, p: &Params) -> Vec<u8> {
     let width = width_of(p);
     let mut archive = vec![0; width.div_ceil(8)];
     let often = random.pick(&[1, 2, 2, 3, 5, 10, 40]);

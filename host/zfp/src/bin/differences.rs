@@ -5,9 +5,10 @@
 
 use std::env;
 use std::process::ExitCode;
+use zfp::classes::Call;
 use zfp::compare::Comparison;
 use zfp::libzfp::Libzfp;
-use zfp::report::{orders, reading, writing};
+use zfp::report::{orders, planes, reading, writing};
 use zfp::run::run;
 use zfp::witness::WITNESSES;
 
@@ -37,6 +38,10 @@ fn report(lib: Libzfp, scale: usize, seed: u64) -> ExitCode {
     let mut comparison = run(lib, seed, scale);
     println!("\nBlocks written by both:\n\n{}", writing(&comparison.tally).join("\n"));
     println!("\nSlots read by both:\n\n{}", reading(&comparison.tally).join("\n"));
+    for (call, what) in [(Call::Write, "blocks"), (Call::Read, "slots")] {
+        let lines = planes(&comparison.tally, call).join("\n");
+        println!("\nLossy {what} whose planes are libzfp's, in dimensions 1 to 4:\n\n{lines}");
+    }
     println!("\nExamples:\n");
     let mut failures = comparison.tally.complaints();
     failures.append(&mut comparison.failures);
