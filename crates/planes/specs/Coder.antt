@@ -80,7 +80,7 @@ mostBits N p = N * p + N - 1
 abbrev pub planeEnd : ℕ → ℕ → List Bool → ℕ
 planeEnd at n bs = at + length (planeCode n bs)
 
--- the ends of planes one after the other
+-- the ends of planes one after the other, of which the first starts at a place and with so many first bits
 abbrev pub endsFrom : ℕ → ℕ → List (List Bool) → List ℕ
 endsFrom at n [] = []
 endsFrom at n (bs ∷ rest) = planeEnd at n bs ∷ endsFrom (planeEnd at n bs) (planeNext n bs) rest
