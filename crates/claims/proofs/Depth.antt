@@ -8,7 +8,7 @@ use borrow.Author.Tests.{eq-eqb, ne-eqb, not-false}
 use lib.Dec.{eqb}
 use lib.ListN.{length}
 use Rattle.bits.proofs.SameLaws.{same-true}
-use Rattle.planes.proofs.Depth.{plane-cut}
+use Rattle.planes.proofs.Depth.{plane-cut, whole-right}
 use Rattle.codec.specs.Code.{padded}
 use Rattle.params.specs.declared.Params.{Params}
 use Rattle.params.specs.Width.{exact, widthOf}
@@ -106,6 +106,7 @@ how-deep = (
   bit-count-planes,
   read-as-written,
   plane-cut,
+  whole-right,
   lossy-at-most,
   exact-read-planes,
   refused-planes,

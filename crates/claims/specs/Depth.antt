@@ -1,13 +1,13 @@
 -- Document 02, M-101, "How deep did it get": what the planes that the calls report say.
 use mathlib.Core.Path.{_≡_}
 use mathlib.Core.Bool.{Bool, true, false}
-use mathlib.Core.List.{List}
-use Prim.Native.Nat.{ℕ, _^_, _≤_, _<_}
+use mathlib.Core.List.{List, map}
+use Prim.Native.Nat.{ℕ, _-_, _*_, _/_, _^_, _≤_, _<_}
 use lib.ListN.{length, take}
 use lib.Seq.{slice}
 use Rattle.words.specs.Word.{AllBelow}
-use Rattle.planes.specs.Coder.{planeCode}
-use Rattle.planes.specs.Reader.{readPlane}
+use Rattle.planes.specs.Coder.{planeCode, planesCode, planesWithin}
+use Rattle.planes.specs.Reader.{readPlane, readWords}
 use Rattle.params.specs.declared.Params.{Params}
 use Rattle.params.specs.Width.{exact, wordCount}
 use Rattle.params.specs.Rows.{first, parameterRows}
@@ -39,6 +39,13 @@ CutNotWhole =
     (N n : ℕ) (bs : List Bool) → length bs ≡ N → n ≤ N → (b : ℕ) → b < length (planeCode n bs)
     → readPlane N n (take b (planeCode n bs)) .whole ≡ false
 
+-- what is counted is right: where k planes are written whole, the k top planes of what a reader makes of the bits within the budget are those of the words
+abbrev pub WholePlanesRight : Type 0
+WholePlanesRight =
+    (w p budget : ℕ) (ws : List ℕ) → AllBelow (2 ^ w) ws → p ≤ w
+    → let low = w - planesWithin w p budget ws in
+    map (λ x. x / 2 ^ low * 2 ^ low) (readWords w (length ws) p (take budget (planesCode w p ws))) ≡ map (λ x. x / 2 ^ low * 2 ^ low) ws
+
 -- no lossy call reports more planes than P
 abbrev pub LossyAtMost : Type 0
 LossyAtMost =
@@ -69,4 +76,4 @@ ListedPlanes =
     → hexValue (slice 6 8 (blockLine p l)) ≡ lineStore p (blockWords (wordCount p) (l .bytes)) .planes
 
 abbrev pub HowDeep : Type 0
-HowDeep = StorePlanes × BitCountPlanes × ReadAsWritten × CutNotWhole × LossyAtMost × ExactReadPlanes × RefusedPlanes × ListedPlanes
+HowDeep = StorePlanes × BitCountPlanes × ReadAsWritten × CutNotWhole × WholePlanesRight × LossyAtMost × ExactReadPlanes × RefusedPlanes × ListedPlanes

@@ -1,20 +1,23 @@
 -- How deep a budget gets: a reader of what the budget leaves counts as many whole planes as the writer.
 use mathlib.Core.Path.{_≡_, refl, sym, ap, _∙_}
 use mathlib.Core.Bool.{Bool, true, false, cond, _&&_}
-use mathlib.Core.List.{List, [], _∷_, _++_, append-nil}
-use Prim.Native.Nat.{ℕ, zero, suc, _+_, _-_, _≤_, _<_}
+use mathlib.Core.List.{List, [], _∷_, _++_, map, append-nil}
+use Prim.Native.Nat.{ℕ, zero, suc, _+_, _-_, _/_, _^_, _≤_, _<_}
+use native.Mathlib.Nat.{mul-mod-left}
 use native.Mathlib.Omega.{arith}
 use borrow.Author.Tests.{le-leb, lt-leb, leb-true, leb-false}
 use lib.Dec.{leb}
 use lib.ListN.{length, take, drop, replicate, length-append, length-drop, length-map}
 use lib.Seq.{length-take-le, take-all, take-append-le, take-append-add, drop-at}
 use Rattle.bits.specs.Stream.{bit}
+use Rattle.words.specs.Word.{AllBelow}
 use Rattle.planes.specs.Coder.{plane, planesOf, any, answer, scan, test, planeCode, planeNext, codeFrom, planesCode}
 use Rattle.planes.specs.Coder.{planeEnd, endsFrom, within, planesWithin}
-use Rattle.planes.specs.Reader.{readTest, readScan, readPlane, readNext, wholeFrom, wholePlanes}
+use Rattle.planes.specs.Reader.{readTest, readScan, readPlane, readNext, readFrom, readWords, wholeFrom, wholePlanes}
 use Rattle.planes.proofs.Bound.{plane-bound, planesOf-length}
-use Rattle.planes.proofs.RoundTrip.{plane-back, next-back}
-use Rattle.planes.proofs.Whole.{whole-back}
+use Rattle.planes.proofs.Words.{Low, top, top-none, top-low}
+use Rattle.planes.proofs.RoundTrip.{plane-back, next-back, add-next, add-plane}
+use Rattle.planes.proofs.Whole.{whole-back, from-top}
 
 -- ---- a strict prefix of a plane's code is not whole
 
@@ -178,3 +181,63 @@ whole-most N (suc p) n s = go (readPlane N n s .whole) (whole-most N p (readNext
 pub planes-read : (N p : ℕ) (s : List Bool) → wholePlanes N p s ≤ p
 unfolding wholePlanes
 planes-read N p s = whole-most N p 0 s
+
+-- ---- what is counted is right: where k planes are whole, the k top planes of the words come back
+
+low-tops : (j : ℕ) (ws : List ℕ) → Low j (map (top j) ws)
+low-tops j [] = tt
+low-tops j (x ∷ ws) = (mul-mod-left (x / 2 ^ j) (2 ^ j), low-tops j ws)
+
+module _ (ws : List ℕ) where
+  -- the bits that the budget leaves of the planes, how many of these are whole, and what is read of them above those that are not
+  abbrev left : ℕ → ℕ → ℕ → ℕ → List Bool
+  left w p n b = take b (codeFrom n (planesOf w p ws))
+
+  abbrev Right : ℕ → ℕ → ℕ → List Bool → Type 0
+  Right w p n s =
+      let low = w - wholeFrom (length ws) p n s in
+      map (top low) (readFrom w p n (map (top w) ws) s) ≡ map (top low) ws
+
+  cut-right : (w p n b : ℕ) → p ≤ w → n ≤ length ws → Right w p n (left w p n b)
+  cut-right w zero n b h hn = let z : w - 0 ≡ w = omega arith in rw z (top-low w (map (top w) ws) (low-tops w ws))
+  cut-right zero (suc p) n b h hn = absurd (omega arith)
+  cut-right (suc w) (suc p) n b h hn =
+      go (leb l b) refl (λ b′. cut-right w p (planeNext n bs) b′ (omega arith) (plane-bound (length ws) n bs wide hn .1))
+    where
+      bs : List Bool
+      bs = plane w ws
+
+      l : ℕ
+      l = length (planeCode n bs)
+
+      more : List Bool
+      more = codeFrom (planeNext n bs) (planesOf w p ws)
+
+      wide : length bs ≡ length ws
+      wide = length-map ws (bit w)
+
+      e : suc w - 1 ≡ w
+      e = omega arith
+
+      go : (a : Bool) → leb l b ≡ a → ((b′ : ℕ) → Right w p (planeNext n bs) (take b′ more)) → Right (suc w) (suc p) n (left (suc w) (suc p) n b)
+      go true t ih =
+          let fits = leb-true l b t in
+          let rest = take (b - l) more in
+          let k = wholeFrom (length ws) p (planeNext n bs) rest in
+          let m : b ≡ l + (b - l) = omega arith in
+          let f : suc w - suc k ≡ w - k = omega arith in
+          let split : take b (planeCode n bs ++ more) ≡ planeCode n bs ++ rest =
+          ap (λ (i : ℕ). take i (planeCode n bs ++ more)) m ∙ take-append-add (planeCode n bs) more (b - l) in
+          rw (e, split, length-map, plane-back (length ws) n bs rest wide hn, next-back (length ws) n bs rest wide hn, add-next, add-plane, f) (ih (b - l))
+      go false t ih =
+          let short = leb-false l b t in
+          let z : suc w - 0 ≡ suc w = omega arith in
+          let split : take b (planeCode n bs ++ more) ≡ take b (planeCode n bs) = take-append-le b (planeCode n bs) more (omega arith) in
+          rw (e, split, plane-cut (length ws) n bs wide hn b short, z)
+          (rw e at (from-top (suc w) (suc p) n (map (top (suc w)) ws) (take b (planeCode n bs)) h (low-tops (suc w) ws)))
+
+pub whole-right : (w p budget : ℕ) (ws : List ℕ) → AllBelow (2 ^ w) ws → p ≤ w
+    → let low = w - planesWithin w p budget ws in
+    map (top low) (readWords w (length ws) p (take budget (planesCode w p ws))) ≡ map (top low) ws
+unfolding readWords planesCode wholePlanes
+whole-right w p budget ws small h = rw (← (read-cut w p budget ws), top-none w ws small) (cut-right ws w p 0 budget h (omega arith))
