@@ -2,7 +2,7 @@
 -- The format f gives the word size; the dimension is d.
 use mathlib.Core.Bool.{Bool, true, false, cond}
 use mathlib.Core.List.{List, [], _∷_, map}
-use Prim.Native.Nat.{ℕ, suc, _+_, _-_, _^_}
+use Prim.Native.Nat.{ℕ, suc, _^_}
 use lib.Ieee.{Format}
 use lib.ListN.{take, drop}
 use Rattle.bits.specs.Stream.{numberOf}
@@ -14,6 +14,7 @@ use Rattle.floats.specs.Pattern.{wordSize, fieldBits}
 use Rattle.floats.specs.Integer.{toInteger}
 use Rattle.float_blocks.specs.Block.{blockExponent, noMagnitude, allZero, allWhole}
 use Rattle.codec.specs.Head.{planesNeeded, countBits}
+use Rattle.codec.specs.Code.{floatBudget}
 
 -- ---- written: "how many planes were written whole, final test included, within the budget"
 
@@ -30,7 +31,7 @@ unfoldable pub wholeWritten : Format → Bool → Bool → ℕ → ℕ → ℕ �
 wholeWritten f false exact d p width ws = wholeIntegers f exact d p width ws
 wholeWritten f true false d p width ws =
     let e = blockExponent f ws in
-    cond (noMagnitude f ws) 0 (wholeIntegers f false d p (width - (1 + fieldBits f)) (map (toInteger f e) ws))
+    cond (noMagnitude f ws) 0 (wholeIntegers f false d p (floatBudget f width) (map (toInteger f e) ws))
 wholeWritten f true true d p width ws =
     let e = blockExponent f ws in
     let integers = cond (allWhole f e ws) (map (toInteger f e) ws) (map (flip (wordSize f)) ws) in
