@@ -43,7 +43,7 @@ and-false : (a : Bool) {b : Bool} → b ≡ false → (a && b) ≡ false
 and-false true e = e
 and-false false e = refl
 
--- reading a strict prefix of a plane's code is not whole
+-- a plane of N places at n
 module _ (N n : ℕ) (bs : List Bool) (e : length bs ≡ N) (hn : n ≤ N) where
   first : length (take n bs) ≡ n
   first = length-take-le n bs (omega arith)
@@ -82,6 +82,12 @@ past budget at n (bs ∷ pls) h =
     let end = planeEnd at n bs in
     rw (lt-leb end budget (omega arith)) (past budget end (planeNext n bs) pls (omega arith))
 
+-- a budget for a code and some of what follows it
+take-past : (code more : List Bool) (b : ℕ) → length code ≤ b → take b (code ++ more) ≡ code ++ take (b - length code) more
+take-past code more b h =
+    let e : b ≡ length code + (b - length code) = omega arith in
+    ap (λ (m : ℕ). take m (code ++ more)) e ∙ take-append-add code more (b - length code)
+
 -- what the budget leaves of planes, read
 module _ (ws : List ℕ) where
   cut-whole : (w p at n b : ℕ) → n ≤ length ws
@@ -110,16 +116,13 @@ module _ (ws : List ℕ) where
           → wholeFrom (length ws) (suc p) n (take b (planeCode n bs ++ more)) ≡ within (at + b) (endsFrom at n (planesOf w (suc p) ws))
       go true t ih =
           let fits = leb-true l b t in
-          let e : b ≡ l + (b - l) = omega arith in
           let f : at + b ≡ end + (b - l) = omega arith in
           let rest = take (b - l) more in
-          let split : take b (planeCode n bs ++ more) ≡ planeCode n bs ++ rest =
-          ap (λ (m : ℕ). take m (planeCode n bs ++ more)) e ∙ take-append-add (planeCode n bs) more (b - l) in
-          rw (split, plane-back (length ws) n bs rest wide h, next-back (length ws) n bs rest wide h, f, le-leb end (end + (b - l)) (omega arith))
+          rw (take-past (planeCode n bs) more b fits, plane-back (length ws) n bs rest wide h, next-back (length ws) n bs rest wide h, f, le-leb end (end + (b - l)) (omega arith))
           (ap suc (ih end (b - l)))
       go false t ih =
           let short = leb-false l b t in
-          let split : take b (planeCode n bs ++ more) ≡ take b (planeCode n bs) = take-append-le b (planeCode n bs) more (omega arith) in
+          let split = take-append-le b (planeCode n bs) more (omega arith) in
           let none = past (at + b) end (planeNext n bs) (planesOf (w - 1) p ws) (omega arith) in
           rw (split, plane-cut (length ws) n bs wide h b short, lt-leb end (at + b) (omega arith), none)
 
@@ -224,15 +227,13 @@ module _ (ws : List ℕ) where
           let fits = leb-true l b t in
           let rest = take (b - l) more in
           let k = wholeFrom (length ws) p (planeNext n bs) rest in
-          let m : b ≡ l + (b - l) = omega arith in
           let f : suc w - suc k ≡ w - k = omega arith in
-          let split : take b (planeCode n bs ++ more) ≡ planeCode n bs ++ rest =
-          ap (λ (i : ℕ). take i (planeCode n bs ++ more)) m ∙ take-append-add (planeCode n bs) more (b - l) in
+          let split = take-past (planeCode n bs) more b fits in
           rw (e, split, length-map, plane-back (length ws) n bs rest wide hn, next-back (length ws) n bs rest wide hn, add-next, add-plane, f) (ih (b - l))
       go false t ih =
           let short = leb-false l b t in
           let z : suc w - 0 ≡ suc w = omega arith in
-          let split : take b (planeCode n bs ++ more) ≡ take b (planeCode n bs) = take-append-le b (planeCode n bs) more (omega arith) in
+          let split = take-append-le b (planeCode n bs) more (omega arith) in
           rw (e, split, plane-cut (length ws) n bs wide hn b short, z)
           (rw e at (from-top (suc w) (suc p) n (map (top (suc w)) ws) (take b (planeCode n bs)) h (low-tops (suc w) ws)))
 
