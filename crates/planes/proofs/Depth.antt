@@ -118,7 +118,9 @@ module _ (ws : List ℕ) where
           let fits = leb-true l b t in
           let f : at + b ≡ end + (b - l) = omega arith in
           let rest = take (b - l) more in
-          rw (take-past (planeCode n bs) more b fits, plane-back (length ws) n bs rest wide h, next-back (length ws) n bs rest wide h, f, le-leb end (end + (b - l)) (omega arith))
+          let split = take-past (planeCode n bs) more b fits in
+          let in-budget = le-leb end (end + (b - l)) (omega arith) in
+          rw (split, plane-back (length ws) n bs rest wide h, next-back (length ws) n bs rest wide h, f, in-budget)
           (ap suc (ih end (b - l)))
       go false t ih =
           let short = leb-false l b t in
