@@ -54,14 +54,16 @@ fn largest(p: &Checked, bits: impl Fn(u32) -> usize) -> u32 {
 /// The bits that libzfp takes for the upper planes of coefficients that stand in this very order.
 ///
 /// It is handed the integers whose exact transform gives them in libzfp's order. Its reversible mode leaves out the planes
-/// below the lowest one that is a one's, so the first coefficient gets a one in plane 0. That makes no code longer: it is
-/// among the bits that are written as they are, unless all coefficients are 0 and every plane is a test.
+/// below the lowest one that is a one's. So where no coefficient has a one in plane 0, the first gets one. That makes no code
+/// longer: there are ones above, so it is among the bits that are written as they are.
 fn bits_of_planes(lib: &Libzfp, p: &Checked, coefficients: &[u32], planes: u32) -> usize {
     if coefficients.iter().all(|&coefficient| coefficient == 0) {
         return planes as usize;
     }
     let mut coefficients = coefficients.to_vec();
-    coefficients[0] |= 1;
+    if coefficients.iter().all(|coefficient| coefficient % 2 == 0) {
+        coefficients[0] |= 1;
+    }
     let ordered = lib.orders(p.dimension).to_ours(&coefficients);
     let block = from_coefficients(&ordered, p.dimension, sums);
     let integers = Shape { kind: Kind::Integers, dimension: p.dimension };
