@@ -1,3 +1,2 @@
 -- The laws of ranges of bits.
-pub mod CopyLaws
-pub mod ZerosStored
+pub mod Zeros

@@ -1,61 +1,61 @@
-// Ranges of bits in a stream: copied from another stream, and set to zero, with one write for each byte.
+// Ranges of bits in a stream: copied from another stream, and padding, with one write for each byte.
 ghost use mathlib.Core.Path.{_≡_};
 ghost use mathlib.Core.Bool.{false};
-ghost use Prim.Native.Nat.{_+_, _-_, _*_, _^_, _≤_, _<_};
-ghost use lib.ListN.{length, replicate};
-ghost use lib.Seq.{sets, slice};
+ghost use Prim.Native.Nat.{_+_, _-_, _*_, _%_, _^_, _≤_, _<_};
+ghost use lib.ListN.{length, take, replicate};
 ghost use Rattle.bits.specs.Stream.{bitsOf};
+ghost use Rattle.bits.specs.Writes.{mostWrites};
+ghost use Rattle.bits.specs.Calls.{Written};
+use bits::Cursor;
 
-// Stores `count` bytes from byte `start` on, which take the bits of `from` from `skip` on.
-fn copy_bytes(from: &[u8], skip: usize, buf: &mut [u8], start: usize, count: usize)
-    requires { ⌜ (skip + 8 * count ≤ 8 * length (now from)) × (start + count ≤ length (now buf)) × (skip + 8 * count < 2 ^ 32) × (start + count < 2 ^ 32) ⌝ }
-    ensures { λ _. ⌜ bitsOf (now (buf .exit)) ≡ sets (bitsOf (now (buf .entry))) (8 * start) (slice skip (skip + 8 * count) (bitsOf (now (from .entry)))) ⌝ }
+// Writes the `count` first bits of `from`, a byte's share at a time.
+pub fn copy_bits(from: &[u8], count: usize, buf: &mut [u8], out: Cursor) -> Cursor
+    requires { ⌜ (count ≤ 8 * length (now from)) × (out .at + count ≤ 8 * length (now buf)) × (out .at + count < 2 ^ 32) × (out .writes ≤ out .at) ⌝ }
+    ensures { λ r. ⌜ Written (now (buf .entry)) (now (buf .exit)) out (out .at + count) (take count (bitsOf (now (from .entry)))) r
+        × (r .writes ≤ out .writes + mostWrites count) ⌝ }
 {
+    let mut next = out;
     let mut i = 0;
     while i < count {
-        let v = bits::get_bits(from, skip + 8 * i, 8);
-        bits::put_part(buf, 8 * (start + i), 8, v);
-        i += 1;
+        let m = bits::piece(next.at, count - i);
+        let v = bits::get_bits(from, i, m);
+        next = bits::put_part(buf, next, v, m);
+        i += m;
     }
+    next
 }
 
-// Stores the `count` bits of `from` from `skip` on, from `at` on, one write for each byte.
-pub fn copy_bits(from: &[u8], skip: usize, buf: &mut [u8], at: usize, count: usize)
-    requires { ⌜ (skip + count ≤ 8 * length (now from)) × (at + count ≤ 8 * length (now buf)) × (skip + count < 2 ^ 32) × (at + count < 2 ^ 32) ⌝ }
-    ensures { λ _. ⌜ bitsOf (now (buf .exit)) ≡ sets (bitsOf (now (buf .entry))) at (slice skip (skip + count) (bitsOf (now (from .entry)))) ⌝ }
+// Stores zeros in `count` whole bytes.
+fn zero_bytes(buf: &mut [u8], out: Cursor, count: usize) -> Cursor
+    requires { ⌜ (0 < count → out .at % 8 ≡ 0) × (out .at + 8 * count ≤ 8 * length (now buf)) × (out .at + 8 * count < 2 ^ 32) × (out .writes ≤ out .at) ⌝ }
+    ensures { λ r. ⌜ Written (now (buf .entry)) (now (buf .exit)) out (out .at + 8 * count) (replicate (8 * count) false) r
+        × (r .writes ≤ out .writes + count) ⌝ }
 {
-    let first = bits::least(count, 8 - at % 8);
-    let v = bits::get_bits(from, skip, first);
-    bits::put_part(buf, at, first, v);
-    let bytes = (count - first) / 8;
-    copy_bytes(from, skip + first, buf, (at + first) / 8, bytes);
-    let done = first + 8 * bytes;
-    let last = bits::get_bits(from, skip + done, count - done);
-    bits::put_part(buf, at + done, count - done, last);
-}
-
-// Stores zeros in `count` bytes from `start` on.
-fn zero_bytes(buf: &mut [u8], start: usize, count: usize)
-    requires { ⌜ (start + count ≤ length (now buf)) × (start + count < 2 ^ 32) ⌝ }
-    ensures { λ _. ⌜ bitsOf (now (buf .exit)) ≡ sets (bitsOf (now (buf .entry))) (8 * start) (replicate (8 * count) false) ⌝ }
-{
+    let start = out.at / 8;
+    let mut writes = out.writes;
     let mut i = 0;
     while i < count {
-        bits::put_part(buf, 8 * (start + i), 8, 0);
+        let at = 8 * (start + i);
+        let next = bits::put_part(buf, Cursor { at, writes }, 0, 8);
+        writes = next.writes;
         i += 1;
     }
+    let at = out.at + 8 * count;
+    Cursor { at, writes }
 }
 
-// Stores zeros from `at` up to `end`, one write for each byte.
-pub fn zero_bits(buf: &mut [u8], at: usize, end: usize)
-    requires { ⌜ (at ≤ end) × (end ≤ 8 * length (now buf)) × (end < 2 ^ 32) ⌝ }
-    ensures { λ _. ⌜ bitsOf (now (buf .exit)) ≡ sets (bitsOf (now (buf .entry))) at (replicate (end - at) false) ⌝ }
+// Padding: zeros up to `end`, none if the cursor stands there or past it. The rest of a byte, whole bytes, and what is left.
+pub fn pad(buf: &mut [u8], out: Cursor, end: usize) -> Cursor
+    requires { ⌜ (end ≤ 8 * length (now buf)) × (end < 2 ^ 32) × (out .writes ≤ out .at) ⌝ }
+    ensures { λ r. ⌜ Written (now (buf .entry)) (now (buf .exit)) out end (replicate (end - out .at) false) r
+        × (r .writes ≤ out .writes + mostWrites (end - out .at)) ⌝ }
 {
-    let first = bits::least(end - at, 8 - at % 8);
-    bits::put_part(buf, at, first, 0);
-    let from = at + first;
-    let bytes = (end - from) / 8;
-    zero_bytes(buf, from / 8, bytes);
-    let done = from + 8 * bytes;
-    bits::put_part(buf, done, end - done, 0);
+    if end <= out.at {
+        return out;
+    }
+    let first = bits::piece(out.at, end - out.at);
+    let one = bits::put_part(buf, out, 0, first);
+    let bytes = (end - one.at) / 8;
+    let two = zero_bytes(buf, one, bytes);
+    bits::put_part(buf, two, 0, end - two.at)
 }

@@ -11,7 +11,7 @@ use lib.Seq.{slice, slice-cons, slice-empty, length-slice, take-nil, take-take, 
 use Rattle.bits.specs.Stream.{bit, digit, numberBits, numberOf, bitsOf}
 use Rattle.bits.specs.Calls.{withBits}
 use Rattle.bits.proofs.NumberLaws.{length-numberBits, numberBits-add, numberBits-take, getD-numberBits}
-use Rattle.bits.proofs.NumberLaws.{number-back, number-low, numberOf-append, numberOf-lt, withBits-bits}
+use Rattle.bits.proofs.NumberLaws.{number-back, bits-back, number-low, numberOf-append, numberOf-lt, withBits-bits}
 
 pub length-bitsOf : (l : List ℕ) → length (bitsOf l) ≡ 8 * length l
 length-bitsOf [] = refl
@@ -92,23 +92,23 @@ bytes-back (a ∷ bs₁) (b ∷ bs) hl hm n e =
     first = sym (number-back 8 a (hl 0)) ∙ ap numberOf heads ∙ number-back 8 b (hm 0)
 
 -- the bits from one place on, as code by an index sees them
-pub slice-next : (d : List Bool) (at i end : ℕ) → at + i < end → end ≤ length d → slice (at + i) end d ≡ getD d (at + i) false ∷ slice (at + (i + 1)) end d
-slice-next d at i end h k =
+slice-next : (d : List Bool) (z : Bool) (at i end : ℕ) → at + i < end → end ≤ length d → slice (at + i) end d ≡ getD d (at + i) z ∷ slice (at + (i + 1)) end d
+slice-next d z at i end h k =
     let e : at + (i + 1) ≡ suc (at + i) = omega arith in
-    rw e (slice-cons (at + i) end d false h k)
+    rw e (slice-cons (at + i) end d z h k)
 
 pub slice-none : (d : List Bool) (at end : ℕ) → at ≡ end → slice at end d ≡ []
 slice-none d at end e = rw e (slice-empty end d)
 
 -- a number, read from its highest bit down
-pub number-next : (d : List Bool) (at i end n : ℕ) → 0 < i → at + i ≤ end → end ≤ length d → n ≡ numberOf (slice (at + i) end d)
-    → digit (getD d (at + (i - 1)) false) + 2 * n ≡ numberOf (slice (at + (i - 1)) end d)
-number-next d at i end n p h k e =
+pub number-next : (d : List Bool) (z : Bool) (at i end n : ℕ) → 0 < i → at + i ≤ end → end ≤ length d → n ≡ numberOf (slice (at + i) end d)
+    → digit (getD d (at + (i - 1)) z) + 2 * n ≡ numberOf (slice (at + (i - 1)) end d)
+number-next d z at i end n p h k e =
     let f : i - 1 + 1 ≡ i = omega arith in
-    rw (slice-next d at (i - 1) end (omega arith) k, f, e)
+    rw (slice-next d z at (i - 1) end (omega arith) k, f, e)
 
 -- the first k bits of a range, and those after them
-drop-take : (n m : ℕ) (l : List Bool) → drop n (take (n + m) l) ≡ take m (drop n l)
+pub drop-take : (n m : ℕ) (l : List Bool) → drop n (take (n + m) l) ≡ take m (drop n l)
 drop-take zero m l = rw zero-add
 drop-take (suc n) m [] = rw (suc-add, take-nil m)
 drop-take (suc n) m (x ∷ l) = rw suc-add (drop-take n m l)
@@ -124,6 +124,12 @@ pub number-lt : (d : List Bool) (at k : ℕ) → at + k ≤ length d → numberO
 number-lt d at k h =
     let e : length (slice at (at + k) d) ≡ k = length-slice at (at + k) d h ∙ omega arith in
     rw e at (numberOf-lt (slice at (at + k) d))
+
+-- the bits of the number of some bits are these bits
+pub part-back : (d : List Bool) (at k : ℕ) → at + k ≤ length d → numberBits k (numberOf (slice at (at + k) d)) ≡ slice at (at + k) d
+part-back d at k h =
+    let e : length (slice at (at + k) d) ≡ k = length-slice at (at + k) d h ∙ omega arith in
+    rw e at (bits-back (slice at (at + k) d))
 
 -- a range of bits in two parts
 pub slice-split : (d : List Bool) (at k end : ℕ) → at + k ≤ end → slice at end d ≡ slice at (at + k) d ++ slice (at + k) end d
@@ -147,13 +153,16 @@ slice-byte (b ∷ bs) zero k c hi hk =
 slice-byte (b ∷ bs) (suc i) k c hi hk =
     rw (past b i k, drop-append-add (numberBits 8 b) (bitsOf bs) (8 * i + k)) (slice-byte bs i k c (omega arith) hk)
 
--- their number, at stream bit `at`
+-- the same at stream bit `at`, and their number
+pub byte-bits : (l : List ℕ) (at c : ℕ) → at < 8 * length l → at % 8 + c ≤ 8
+    → slice at (at + c) (bitsOf l) ≡ numberBits c (getD l (at / 8) 0 / 2 ^ (at % 8))
+byte-bits l at c h k =
+    let e : 8 * (at / 8) + at % 8 ≡ at = omega arith in
+    drop-take at c (bitsOf l) ∙ (rw e at (slice-byte l (at / 8) (at % 8) c (omega arith) k))
+
 pub part-number : (l : List ℕ) (at c : ℕ) → at < 8 * length l → at % 8 + c ≤ 8
     → numberOf (slice at (at + c) (bitsOf l)) ≡ getD l (at / 8) 0 / 2 ^ (at % 8) % 2 ^ c
-part-number l at c h k =
-    let e : 8 * (at / 8) + at % 8 ≡ at = omega arith in
-    ap numberOf (drop-take at c (bitsOf l) ∙ (rw e at (slice-byte l (at / 8) (at % 8) c (omega arith) k)))
-    ∙ number-low c (getD l (at / 8) 0 / 2 ^ (at % 8))
+part-number l at c h k = ap numberOf (byte-bits l at c h k) ∙ number-low c (getD l (at / 8) 0 / 2 ^ (at % 8))
 
 -- the number of a range in two parts
 pub number-parts : (d : List Bool) (at k n : ℕ) → k ≤ n → at + n ≤ length d

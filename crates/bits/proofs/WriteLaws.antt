@@ -9,11 +9,13 @@ use native.Mathlib.Omega.{arith}
 use lib.ListN.{length, getD, set, take, length-append, length-take, drop}
 use mathlib.Core.Logic.{_⊎_, inl, inr}
 use lib.Seq.{slice, take-set-le, take-set-lt, drop-set-lt, length-take-le, take-add, take-append-add, drop-at}
-use lib.Seq.{sets-eq, sets, length-sets, take-nil, take-all, getD-set-other}
+use lib.Seq.{sets-eq, sets, length-sets, take-nil, take-all, take-take, getD-set-other}
 use Rattle.bits.specs.declared.Cursor.{Cursor}
-use Rattle.bits.specs.Stream.{numberBits, write}
+use Rattle.bits.specs.Stream.{numberBits, bitsOf, write}
 use Rattle.bits.specs.Calls.{Written}
-use Rattle.bits.proofs.NumberLaws.{length-numberBits, numberBits-add, numberBits-take}
+use Rattle.bits.proofs.NumberLaws.{numberBits-add}
+use Rattle.bits.proofs.StreamLaws.{length-bitsOf}
+use Rattle.bits.proofs.ChangeLaws.{changed-none, changed-more}
 
 pub length-write : (d : List Bool) (at limit : ℕ) (code : List Bool) → length (write d at limit code) ≡ length d
 unfolding write
@@ -63,16 +65,6 @@ sets-append d at [] ys = rw (add-zero at)
 sets-append d at (x ∷ xs) ys =
     let e : at + suc (length xs) ≡ suc at + length xs = omega arith in
     rw e (sets-append (set d at x) (suc at) xs ys)
-
--- a number's bits below the limit, stored in two parts
-pub write-two : (d : List Bool) (at limit v count room first : ℕ) → room ≡ min count (limit - at) → first ≤ room
-    → sets (sets d at (numberBits first v)) (at + first) (numberBits (room - first) (v / 2 ^ first)) ≡ write d at limit (numberBits count v)
-unfolding write
-write-two d at limit v count room first e h =
-    let l : at + first ≡ at + length (numberBits first v) = ap (λ (n : ℕ). at + n) (sym (length-numberBits first v)) in
-    let f : first + (room - first) ≡ room = omega arith in
-    rw (l, ← sets-append d at (numberBits first v) (numberBits (room - first) (v / 2 ^ first)), ← numberBits-add first (room - first) v, f, e)
-    (ap (sets d at) (sym (numberBits-take (limit - at) count v)))
 
 -- bits before the place, at the limit and after it, and past the code stay as they are
 sets-other : (d : List Bool) (at : ℕ) (vs : List Bool) (i : ℕ) (z : Bool) → ((k : ℕ) → k < length vs → i ≡ at + k → ⊥) → getD (sets d at vs) i z ≡ getD d i z
@@ -137,21 +129,63 @@ slice-write d at limit end code h k l =
     ∙ drop-at (take at d) (code ++ left) at before
     ∙ ap (λ (x : List Bool). code ++ x) (sym (ap (λ (i : ℕ). drop n (take i d)) e′ ∙ ap (drop n) (take-add n (end - n) d) ∙ drop-at (take n d) left n first))
 
--- what one part wrote, and then another
-pub written-none : (d : List Bool) (out : Cursor) (limit : ℕ) → Written d d out limit [] out
-written-none d out limit = record { bits = sym (write-none d (out .at) limit); moved = omega arith }
+-- a writer leaves the buffer as long as it was
+same-bytes : (before after : List ℕ) (at limit : ℕ) (code : List Bool) → bitsOf after ≡ write (bitsOf before) at limit code → length after ≡ length before
+same-bytes before after at limit code e =
+    omega (arith, length-bitsOf before, length-bitsOf after, ap length e ∙ length-write (bitsOf before) at limit code)
 
-pub written-append : {before mid after xs ys : List Bool} {limit : ℕ} {out out₁ out₂ : Cursor}
-    → Written before mid out limit xs out₁ → Written mid after out₁ limit ys out₂ → Written before after out limit (xs ++ ys) out₂
-written-append {before} {xs = xs} {ys} {limit} {out} p q =
+-- what one part wrote, and then another
+pub written-none : (bytes : List ℕ) (out : Cursor) (limit : ℕ) → Written bytes bytes out limit [] out
+written-none bytes out limit =
     record {
-      bits = rw (write-append before (out .at) limit xs ys, ← (p .bits), ← (p .moved)) (q .bits);
-      moved = omega (arith, p .moved, q .moved, length-append xs ys);
+      bits = sym (write-none (bitsOf bytes) (out .at) limit);
+      moved = omega arith;
+      counted = omega (arith, changed-none bytes);
+      few = omega arith;
     }
 
--- a number from here on: its first k bits are written, and then the others
-pub number-more : {d d₁ : List Bool} {out₁ : Cursor} (out : Cursor) (limit k left rest : ℕ) → k ≤ left → Written d d₁ out limit (numberBits k rest) out₁
-    → write d₁ (out₁ .at) limit (numberBits (left - k) (rest / 2 ^ k)) ≡ write d (out .at) limit (numberBits left rest)
-number-more {d} out limit k left rest h r =
+pub written-append : {before mid after : List ℕ} {xs ys : List Bool} {limit : ℕ} {out out₁ out₂ : Cursor}
+    → Written before mid out limit xs out₁ → Written mid after out₁ limit ys out₂ → Written before after out limit (xs ++ ys) out₂
+written-append {before} {mid} {after} {xs} {ys} {limit} {out} p q =
+    record {
+      bits = rw (write-append (bitsOf before) (out .at) limit xs ys, ← (p .bits), ← (p .moved)) (q .bits);
+      moved = omega (arith, p .moved, q .moved, length-append xs ys);
+      counted = omega (arith, p .counted, q .counted, changed-more before mid after (same-bytes before mid (out .at) limit xs (p .bits)));
+      few = omega (arith, p .few, q .few, length-append xs ys);
+    }
+
+-- what is written whole below one limit is so below another
+pub written-within : {before after : List ℕ} {out next : Cursor} {limit : ℕ} {code : List Bool} (limit₁ : ℕ) → Written before after out limit code next
+    → out .at + length code ≤ limit → out .at + length code ≤ limit₁ → Written before after out limit₁ code next
+written-within {before} {out = out} {limit = limit} {code} limit₁ w h k =
+    record {
+      bits = w .bits ∙ write-whole (bitsOf before) (out .at) limit code h ∙ sym (write-whole (bitsOf before) (out .at) limit₁ code k);
+      moved = w .moved;
+      counted = w .counted;
+      few = w .few;
+    }
+
+-- a code whose first c bits, those below the limit, were written: the cursor moves past all of it
+pub written-cut : {before after : List ℕ} {out next : Cursor} {limit c : ℕ} (n : ℕ) (code : List Bool) → length code ≡ n → c ≡ min n (limit - out .at)
+    → Written before after out (out .at + c) (take c code) next → Written before after out limit code (record { at = out .at + n; writes = next .writes })
+unfolding write
+written-cut {before} {out = out} {limit = limit} {c} n code l e w =
+    let here : out .at + c - out .at ≡ c = omega arith in
+    record {
+      bits = rw (← (cut (decLe (limit - out .at) (length code)))) (rw (here, take-take c c code (omega arith)) at (w .bits));
+      moved = omega arith;
+      counted = w .counted;
+      few = omega (arith, w .few, length-take c code);
+    }
+  where
+    cut : Dec (limit - out .at ≤ length code) → take c code ≡ take (limit - out .at) code
+    cut (yes k) = let same : c ≡ limit - out .at = omega arith in rw same
+    cut (no k) = take-all c code (omega arith) ∙ sym (take-all (limit - out .at) code (omega arith))
+
+-- a number's first k bits, and then the others
+pub number-more : {before mid after : List ℕ} {out out₁ out₂ : Cursor} {limit : ℕ} (k left rest : ℕ) → k ≤ left
+    → Written before mid out limit (numberBits k rest) out₁ → Written mid after out₁ limit (numberBits (left - k) (rest / 2 ^ k)) out₂
+    → Written before after out limit (numberBits left rest) out₂
+number-more k left rest h p q =
     let e : k + (left - k) ≡ left = omega arith in
-    rw (r .bits, r .moved, ← write-append d (out .at) limit (numberBits k rest) (numberBits (left - k) (rest / 2 ^ k)), ← numberBits-add k (left - k) rest, e)
+    rw (← e, numberBits-add k (left - k) rest) (written-append p q)

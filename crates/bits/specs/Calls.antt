@@ -2,15 +2,19 @@
 use mathlib.Core.Path.{_≡_}
 use mathlib.Core.Bool.{Bool, true, not, _&&_}
 use mathlib.Core.List.{List, [], _∷_}
-use Prim.Native.Nat.{ℕ, _+_, _*_, _/_, _%_, _^_}
+use Prim.Native.Nat.{ℕ, _+_, _*_, _/_, _%_, _^_, _≤_}
 use lib.ListN.{length}
 use Rattle.bits.specs.declared.Cursor.{Cursor}
-use Rattle.bits.specs.Stream.{write}
+use Rattle.bits.specs.Stream.{bitsOf, write}
+use Rattle.bits.specs.Writes.{changed}
 
--- what a writer did to the stream: a code was written from the cursor's place on below the limit, and `next` stands after the uncut code
-pub record Written (before after : List Bool) (out : Cursor) (limit : ℕ) (code : List Bool) (next : Cursor) : Type 0 where
-  pub bits : after ≡ write before (out .at) limit code
+-- what a writer did to a buffer: a code was written from the cursor's place on below the limit, and `next` stands after the uncut code, with a byte write
+-- counted for each byte that is changed, and no more of them than bits
+pub record Written (before after : List ℕ) (out : Cursor) (limit : ℕ) (code : List Bool) (next : Cursor) : Type 0 where
+  pub bits : bitsOf after ≡ write (bitsOf before) (out .at) limit code
   pub moved : next .at ≡ out .at + length code
+  pub counted : out .writes + changed before after ≤ next .writes
+  pub few : next .writes ≤ out .writes + length code
 
 -- byte b with the c bits from bit k on replaced by the lowest bits of v
 unfoldable pub withBits : ℕ → ℕ → ℕ → ℕ → ℕ

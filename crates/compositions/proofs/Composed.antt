@@ -69,7 +69,7 @@ module _ (size : ℕ) (ws : List ℕ) (p : ℕ) (buf back : List ℕ) where
   -- a written stream is as long as before, so that all of it is read
   pub coded-and-read : {out next : Cursor} (buf′ back′ : List ℕ) (end at whole : ℕ) → codable size p (length ws) (length buf) ≡ true
       → out .at ≡ 0 → end ≡ length buf * 8 → length buf′ ≡ length buf
-      → Written (bitsOf buf) (bitsOf buf′) out end (planesCode size p ws) next
+      → Written buf buf′ out end (planesCode size p ws) next
       → PlanesRead size back′ (length back) p (bitsOf buf′) 0 end at whole
       → planesBack true buf′ back′ ≡ planesThereAndBack size ws p buf back
   unfolding planesThereAndBack

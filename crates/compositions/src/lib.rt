@@ -37,7 +37,15 @@ pub fn planes_there_and_back(
         return false;
     }
     let end = buf.len() * 8;
-    plane_writer::put_planes(size, words, p, buf, bits::Cursor { at: 0 }, end, end);
+    plane_writer::put_planes(
+        size,
+        words,
+        p,
+        buf,
+        bits::Cursor { at: 0, writes: 0 },
+        end,
+        end,
+    );
     plane_reader::read_planes(size, buf, 0, end, back, p);
     true
 }

@@ -76,9 +76,9 @@ module _ (f : Format) (ws : List ℕ) where
       record { code = λ d p. rw (h, ← own, whole, made); whole = λ d p width. rw (h, ← own, whole, made); short = omega arith }
 
 -- the form's bits, and what follows them, and how many planes are whole
-module _ {f : Format} {float exact planes : Bool} {ws ws′ : List ℕ} {head bits : ℕ} {before mid : List Bool} {limit : ℕ} {out out₁ : Cursor}
+module _ {f : Format} {float exact planes : Bool} {ws ws′ : List ℕ} {head bits : ℕ} {before mid : List ℕ} {limit : ℕ} {out out₁ : Cursor}
     (d p width : ℕ) (form : Formed f float exact ws ws′ head bits planes) where
-  pub with-planes : {after : List Bool} {out₂ : Cursor} {whole : ℕ} → planes ≡ true → Written before mid out limit (numberBits bits head) out₁
+  pub with-planes : {after : List ℕ} {out₂ : Cursor} {whole : ℕ} → planes ≡ true → Written before mid out limit (numberBits bits head) out₁
       → Written mid after out₁ limit (integersCode f exact d p ws′) out₂ × (whole ≡ wholeIntegers f exact d p (width - bits) ws′)
       → Written before after out limit (uncutCode f float exact d p ws) out₂ × (whole ≡ wholeWritten f float exact d p width ws)
   with-planes e r₁ r₂ = (rw (form .code d p, e) (written-append r₁ (r₂ .0)), rw (form .whole d p width, e) (r₂ .1))

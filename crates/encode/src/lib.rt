@@ -4,7 +4,6 @@ ghost use mathlib.Core.Path.{_≡_};
 ghost use mathlib.Core.Bool.{true, false};
 ghost use Prim.Native.Nat.{_*_, _^_, _≤_, _<_};
 ghost use lib.ListN.{length};
-ghost use Rattle.bits.specs.Stream.{bitsOf};
 ghost use Rattle.bits.specs.Calls.{Written};
 ghost use Rattle.words.specs.Calls.{Size};
 ghost use Rattle.floats.specs.Calls.{formatOf};
@@ -22,8 +21,9 @@ use plane_writer::Coded;
 
 // The bits of p - 1, then p planes.
 fn put_exact_planes(size: u32, us: &[u64], buf: &mut [u8], out: Cursor, limit: usize) -> Coded
-    requires { ⌜ Size size × (length (now us) ≤ 256) × (limit ≤ 8 * length (now buf)) × (out .at < 2 ^ 30) ⌝ }
-    ensures { λ r. ⌜ Written (bitsOf (now (buf .entry))) (bitsOf (now (buf .exit))) out limit
+    requires { ⌜ Size size × (length (now us) ≤ 256) × (limit ≤ 8 * length (now buf)) × (out .at < 2 ^ 30)
+        × (out .writes ≤ out .at) ⌝ }
+    ensures { λ r. ⌜ Written (now (buf .entry)) (now (buf .exit)) out limit
         (exactPlanes (formatOf size) (now (us .entry))) (r .out) × (r .whole ≡ planesNeeded size (now (us .entry))) ⌝ }
 {
     let p = planes_needed(size, us);
@@ -45,8 +45,9 @@ fn put_coefficients(
     limit: usize,
     budget: usize,
 ) -> Coded
-    requires { ⌜ Size size × (p ≤ size) × (length (now us) ≤ 256) × (limit ≤ 8 * length (now buf)) × (out .at < 2 ^ 30) ⌝ }
-    ensures { λ r. ⌜ Written (bitsOf (now (buf .entry))) (bitsOf (now (buf .exit))) out limit
+    requires { ⌜ Size size × (p ≤ size) × (length (now us) ≤ 256) × (limit ≤ 8 * length (now buf)) × (out .at < 2 ^ 30)
+        × (out .writes ≤ out .at) ⌝ }
+    ensures { λ r. ⌜ Written (now (buf .entry)) (now (buf .exit)) out limit
         (coefficientsCode (formatOf size) exact p (now (us .entry))) (r .out)
         × (r .whole ≡ wholeOf (formatOf size) exact p budget (now (us .entry))) ⌝ }
 {
@@ -70,8 +71,9 @@ fn put_integers(
     limit: usize,
     budget: usize,
 ) -> Coded
-    requires { ⌜ Shape size d p (length (now words)) × (length (now cs) ≡ 4 ^ d) × (limit ≤ 8 * length (now buf)) × (out .at < 2 ^ 30) ⌝ }
-    ensures { λ r. ⌜ Written (bitsOf (now (buf .entry))) (bitsOf (now (buf .exit))) out limit
+    requires { ⌜ Shape size d p (length (now words)) × (length (now cs) ≡ 4 ^ d) × (limit ≤ 8 * length (now buf)) × (out .at < 2 ^ 30)
+        × (out .writes ≤ out .at) ⌝ }
+    ensures { λ r. ⌜ Written (now (buf .entry)) (now (buf .exit)) out limit
         (integersCode (formatOf size) exact d p (now (words .entry))) (r .out)
         × (r .whole ≡ wholeIntegers (formatOf size) exact d p budget (now (words .entry))) ⌝ }
 {
@@ -175,8 +177,8 @@ pub fn put_block(
 ) -> Coded
     requires { ⌜ Shape size d p (length (now words)) × (length (now cs) ≡ 4 ^ d)
         × (float ≡ true → exact ≡ false → anySpecial (formatOf size) (now words) ≡ false)
-        × (limit ≤ 8 * length (now buf)) × (out .at < 2 ^ 28) × (13 ≤ width) ⌝ }
-    ensures { λ r. ⌜ Written (bitsOf (now (buf .entry))) (bitsOf (now (buf .exit))) out limit
+        × (limit ≤ 8 * length (now buf)) × (out .at < 2 ^ 28) × (out .writes ≤ out .at) × (13 ≤ width) ⌝ }
+    ensures { λ r. ⌜ Written (now (buf .entry)) (now (buf .exit)) out limit
         (uncutCode (formatOf size) float exact d p (now (words .entry))) (r .out)
         × (r .whole ≡ wholeWritten (formatOf size) float exact d p width (now (words .entry))) ⌝ }
 {

@@ -1,36 +1,19 @@
--- How a coder's steps are put together: nothing, a bit and then the rest, a code and then the rest.
-use mathlib.Core.Path.{_≡_, sym, _∙_}
+-- How a coder's steps are put together: a plane and then the planes below it.
+use mathlib.Core.Path.{_≡_}
 use mathlib.Core.Bool.{Bool, true, false, cond}
-use mathlib.Core.List.{List, [], _∷_, _++_}
+use mathlib.Core.List.{List}
 use Prim.Native.Nat.{ℕ, suc, _+_, _-_, _<_}
 use native.Mathlib.Omega.{arith}
 use lib.Dec.{leb}
 use Rattle.bits.specs.declared.Cursor.{Cursor}
 use Rattle.bits.specs.Stream.{digit}
 use Rattle.bits.specs.Calls.{Written}
-use Rattle.bits.proofs.WriteLaws.{written-none, written-append}
+use Rattle.bits.proofs.WriteLaws.{written-append}
 use Rattle.planes.specs.Coder.{plane, planesOf, planeCode, planeNext, codeFrom, planeEnd, endsFrom, within}
 use Rattle.planes.specs.Calls.{Advanced}
 
-module _ {d : List Bool} {out : Cursor} {limit : ℕ} {code : List Bool} {to : ℕ} where
-  pub advanced-none : {n′ : ℕ} → code ≡ [] → to ≡ n′ → Advanced d d out limit code to out n′
-  advanced-none e m = record { written = rw e (written-none d out limit); moved = sym m }
-
-  pub advanced-more : {d₁ d₂ rest : List Bool} {out₁ out₂ : Cursor} {to₁ n′ : ℕ} {b : Bool}
-      → Written d d₁ out limit (b ∷ []) out₁ → code ≡ b ∷ rest → to ≡ to₁
-      → Advanced d₁ d₂ out₁ limit rest to₁ out₂ n′ → Advanced d d₂ out limit code to out₂ n′
-  advanced-more put e m r = record { written = rw e (written-append put (r .written)); moved = r .moved ∙ sym m }
-
-  pub advanced-one : {d₁ : List Bool} {out₁ : Cursor} {n′ : ℕ} {b : Bool}
-      → Written d d₁ out limit (b ∷ []) out₁ → code ≡ b ∷ [] → to ≡ n′ → Advanced d d₁ out limit code to out₁ n′
-  advanced-one put e m = record { written = rw e put; moved = sym m }
-
-pub advanced-append : {d d₁ d₂ xs ys : List Bool} {limit to n′ : ℕ} {out out₁ out₂ : Cursor}
-    → Written d d₁ out limit xs out₁ → Advanced d₁ d₂ out₁ limit ys to out₂ n′ → Advanced d d₂ out limit (xs ++ ys) to out₂ n′
-advanced-append w r = record { written = written-append w (r .written); moved = r .moved }
-
 -- a plane, and then the planes below it, down to the lowest
-pub planes-more : {d₁ d₂ after : List Bool} {limit n₂ : ℕ} {out₁ out₂ end : Cursor} (lowest k n : ℕ) (ws : List ℕ) → lowest < k
+pub planes-more : {d₁ d₂ after : List ℕ} {limit n₂ : ℕ} {out₁ out₂ end : Cursor} (lowest k n : ℕ) (ws : List ℕ) → lowest < k
     → Advanced d₁ d₂ out₁ limit (planeCode n (plane (k - 1) ws)) (planeNext n (plane (k - 1) ws)) out₂ n₂
     → Written d₂ after out₂ limit (codeFrom n₂ (planesOf (k - 1) (k - 1 - lowest) ws)) end
     → Written d₁ after out₁ limit (codeFrom n (planesOf k (k - lowest) ws)) end

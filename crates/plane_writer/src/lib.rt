@@ -1,12 +1,14 @@
 // The coder: writes the planes of words to a stream of bits, below a limit.
 ghost use mathlib.Core.Path.{_≡_};
-ghost use Prim.Native.Nat.{ℕ, _+_, _-_, _*_, _^_, _≤_, _<_};
+ghost use Prim.Native.Nat.{ℕ, _+_, _-_, _*_, _^_, _≤_, _<_, min, max};
 ghost use lib.Dec.{leb};
 ghost use lib.ListN.{length, getD, take, drop};
-ghost use Rattle.bits.specs.Stream.{bit, digit, bitsOf};
+ghost use lib.Seq.{slice};
+ghost use Rattle.bits.specs.Stream.{bit, digit, numberOf};
+ghost use Rattle.bits.specs.Writes.{mostWrites};
 ghost use Rattle.bits.specs.Calls.{Written};
-ghost use Rattle.planes.specs.Coder.{plane, any, onesEnd, scan, test, scanMoves, planeCode, planeNext, planesCode, planesWithin};
-ghost use Rattle.planes.specs.Calls.{Advanced};
+ghost use Rattle.planes.specs.Coder.{plane, any, onesEnd, scan, test, planeCode, planeNext, planesCode, planesWithin};
+ghost use Rattle.planes.specs.Calls.{cursor, Advanced};
 use bits::Cursor;
 
 // Where the coder stands: in the stream, and in the plane (document 01's n).
@@ -57,31 +59,39 @@ pub fn planes_with_ones(words: &[u64]) -> u64
     all
 }
 
-// The test at place n: is any bit from there on a one? A 1 is followed by a scan.
+// The test at place n: is any bit from there on a one? A 1 is followed by a scan. The place after it; the count of byte writes is lent, which keeps the
+// cycle's frames small.
 fn test(
     words: &[u64],
     k: u32,
     end: usize,
     n: usize,
     buf: &mut [u8],
-    out: Cursor,
+    at: usize,
+    writes: &mut usize,
     limit: usize,
-) -> Coder
+) -> usize
     requires { ⌜ (k < 64) × (n ≤ length (now words)) × (end ≡ onesEnd (plane k (now words))) × (limit ≤ 8 * length (now buf))
-        × (out .at + 2 * (length (now words) - n) < 2 ^ 32) ⌝ }
-    ensures { λ r. ⌜ Advanced (bitsOf (now (buf .entry))) (bitsOf (now (buf .exit))) out limit
-        (test (drop n (plane k (now (words .entry))))) (planeNext n (plane k (now (words .entry)))) (r .out) (r .n) ⌝ }
+        × (at + 2 * (length (now words) - n) < 2 ^ 32) × (now writes ≤ at) ⌝ }
+    ensures { λ r. ⌜ Written (now (buf .entry)) (now (buf .exit)) (cursor at (now (writes .entry))) limit
+        (test (drop n (plane k (now (words .entry))))) (cursor r (now (writes .exit))) ⌝ }
 {
+    let out = Cursor {
+        at,
+        writes: *writes,
+    };
     if n < words.len() {
         if n < end {
             let next = bits::put(buf, out, limit, true);
-            scan(words, k, end, n, buf, next, limit)
+            *writes = next.writes;
+            scan(words, k, end, n, buf, next.at, writes, limit)
         } else {
             let next = bits::put(buf, out, limit, false);
-            Coder { out: next, n }
+            *writes = next.writes;
+            next.at
         }
     } else {
-        Coder { out, n }
+        at
     }
 }
 
@@ -92,52 +102,106 @@ fn scan(
     end: usize,
     n: usize,
     buf: &mut [u8],
-    out: Cursor,
+    at: usize,
+    writes: &mut usize,
     limit: usize,
-) -> Coder
+) -> usize
     requires { ⌜ (k < 64) × (n < length (now words)) × (end ≡ onesEnd (plane k (now words))) × (limit ≤ 8 * length (now buf))
-        × (out .at + 2 * (length (now words) - n) < 2 ^ 32 + 1) ⌝ }
-    ensures { λ r. ⌜ Advanced (bitsOf (now (buf .entry))) (bitsOf (now (buf .exit))) out limit
-        (scan (drop n (plane k (now (words .entry))))) (n + scanMoves (drop n (plane k (now (words .entry))))) (r .out) (r .n) ⌝ }
+        × (at + 2 * (length (now words) - n) < 2 ^ 32 + 1) × (now writes ≤ at) ⌝ }
+    ensures { λ r. ⌜ Written (now (buf .entry)) (now (buf .exit)) (cursor at (now (writes .entry))) limit
+        (scan (drop n (plane k (now (words .entry))))) (cursor r (now (writes .exit))) ⌝ }
 {
     let past = n + 1;
     if past < words.len() {
         let b = bit_at(words, k, n);
+        let out = Cursor {
+            at,
+            writes: *writes,
+        };
         let next = bits::put(buf, out, limit, b);
+        *writes = next.writes;
         if b {
-            test(words, k, end, past, buf, next, limit)
+            test(words, k, end, past, buf, next.at, writes, limit)
         } else {
-            scan(words, k, end, past, buf, next, limit)
+            scan(words, k, end, past, buf, next.at, writes, limit)
         }
     } else {
-        Coder { out, n: past }
+        at
     }
 }
 
-// The n first bits of plane k, as they are.
-fn verbatim(words: &[u64], k: u32, n: usize, buf: &mut [u8], out: Cursor, limit: usize) -> Cursor
-    requires { ⌜ (k < 64) × (n ≤ length (now words)) × (limit ≤ 8 * length (now buf)) × (out .at + n < 2 ^ 32) ⌝ }
-    ensures { λ r. ⌜ Written (bitsOf (now (buf .entry))) (bitsOf (now (buf .exit))) out limit (take n (plane k (now (words .entry)))) r ⌝ }
+// How many of `count` bits from `at` on are below the limit.
+fn below(at: usize, limit: usize, count: usize) -> usize
+    ensures { λ r. ⌜ r ≡ min count (limit - at) ⌝ }
 {
+    if at < limit {
+        bits::least(count, limit - at)
+    } else {
+        0
+    }
+}
+
+// The number that has `count` bits of plane k from place `from` on, lowest first.
+fn gather(words: &[u64], k: u32, from: usize, count: usize) -> u32
+    requires { ⌜ (k < 64) × (from + count ≤ length (now words)) × (count ≤ 8) ⌝ }
+    ensures { λ r. ⌜ r ≡ numberOf (slice from (from + count) (plane k (now (words .entry)))) ⌝ }
+{
+    let mut i = count;
+    let mut v: u32 = 0;
+    while 0 < i {
+        i -= 1;
+        v = bits::with_digit(v, bit_at(words, k, from + i));
+    }
+    v
+}
+
+// The n first bits of plane k, as they are, a byte's share at a time; those at the limit and after it are not looked at.
+fn verbatim(words: &[u64], k: u32, n: usize, buf: &mut [u8], out: Cursor, limit: usize) -> Cursor
+    requires { ⌜ (k < 64) × (n ≤ length (now words)) × (limit ≤ 8 * length (now buf)) × (out .at + n < 2 ^ 32) × (out .writes ≤ out .at) ⌝ }
+    ensures { λ r. ⌜ Written (now (buf .entry)) (now (buf .exit)) out limit (take n (plane k (now (words .entry)))) r
+        × (r .writes ≤ out .writes + mostWrites n) ⌝ }
+{
+    if n < 1 {
+        return out;
+    }
+    let at = out.at;
+    let stored = below(at, limit, n);
     let mut next = out;
     let mut i = 0;
-    while i < n {
-        next = bits::put(buf, next, limit, bit_at(words, k, i));
-        i += 1;
+    while i < stored {
+        let m = bits::piece(next.at, stored - i);
+        let v = gather(words, k, i, m);
+        next = bits::put_part(buf, next, v, m);
+        i += m;
     }
-    next
+    let writes = next.writes;
+    Cursor { at: at + n, writes }
+}
+
+// The later of two places.
+fn later(a: usize, b: usize) -> usize
+    ensures { λ r. ⌜ r ≡ max a b ⌝ }
+{
+    if a < b { b } else { a }
 }
 
 // Plane k: its n first bits as they are, then a test, if places are left.
 fn put_plane(words: &[u64], k: u32, n: usize, buf: &mut [u8], out: Cursor, limit: usize) -> Coder
-    requires { ⌜ (k < 64) × (n ≤ length (now words)) × (limit ≤ 8 * length (now buf)) × (out .at + 2 * length (now words) < 2 ^ 32) ⌝ }
-    ensures { λ r. ⌜ Advanced (bitsOf (now (buf .entry))) (bitsOf (now (buf .exit))) out limit
+    requires { ⌜ (k < 64) × (n ≤ length (now words)) × (limit ≤ 8 * length (now buf)) × (out .at + 2 * length (now words) < 2 ^ 32)
+        × (out .writes ≤ out .at) ⌝ }
+    ensures { λ r. ⌜ Advanced (now (buf .entry)) (now (buf .exit)) out limit
         (planeCode n (plane k (now (words .entry)))) (planeNext n (plane k (now (words .entry)))) (r .out) (r .n) ⌝ }
 {
     let next = verbatim(words, k, n, buf, out, limit);
     if n < words.len() {
         let end = ones_end(words, k);
-        test(words, k, end, n, buf, next, limit)
+        let mut writes = next.writes;
+        let at = test(words, k, end, n, buf, next.at, &mut writes, limit);
+        let tested = Cursor { at, writes };
+        Coder {
+            out: tested,
+            n: later(n, end),
+        }
     } else {
         Coder { out: next, n }
     }
@@ -161,8 +225,9 @@ pub fn put_planes(
     limit: usize,
     budget: usize,
 ) -> Coded
-    requires { ⌜ (size ≤ 64) × (p ≤ size) × (length (now words) ≤ 256) × (limit ≤ 8 * length (now buf)) × (out .at < 2 ^ 31) ⌝ }
-    ensures { λ r. ⌜ Written (bitsOf (now (buf .entry))) (bitsOf (now (buf .exit))) out limit (planesCode size p (now (words .entry))) (r .out)
+    requires { ⌜ (size ≤ 64) × (p ≤ size) × (length (now words) ≤ 256) × (limit ≤ 8 * length (now buf)) × (out .at < 2 ^ 31)
+        × (out .writes ≤ out .at) ⌝ }
+    ensures { λ r. ⌜ Written (now (buf .entry)) (now (buf .exit)) out limit (planesCode size p (now (words .entry))) (r .out)
         × (r .whole ≡ planesWithin size p budget (now (words .entry))) ⌝ }
 {
     let lowest = size - p;

@@ -10,8 +10,12 @@ use Rattle.planes.specs.Reader.{readPlane, readNext, addPlane}
 
 -- ---- writing
 
+-- the cursor at a place, after so many byte writes
+abbrev pub cursor : ℕ → ℕ → Cursor
+cursor at writes = record { at = at; writes = writes }
+
 -- a code was written from the cursor's place on, and n, which is n′ after it, has moved `to` a place
-pub record Advanced (before after : List Bool) (out : Cursor) (limit : ℕ) (code : List Bool) (to : ℕ) (next : Cursor) (n′ : ℕ) : Type 0 where
+pub record Advanced (before after : List ℕ) (out : Cursor) (limit : ℕ) (code : List Bool) (to : ℕ) (next : Cursor) (n′ : ℕ) : Type 0 where
   pub written : Written before after out limit code next
   pub moved : n′ ≡ to
 

@@ -1,111 +1,79 @@
--- The rest of a byte, whole bytes, and the rest of the bits. Assumes nothing.
-use Rattle.bit_ranges.proofs.CopyLaws.{copied-part, copied-bytes}
-use Rattle.bits.proofs.StreamLaws.{length-bitsOf, slice-none}
+-- The invariant: the i first bits were written. Assumes nothing.
 use Rattle.bits.specs.Stream.{bitsOf}
+use Rattle.bits.proofs.PieceLaws.{Partly, partly-none, partly-more, partly-all}
+use Rattle.bits.proofs.StreamLaws.{length-bitsOf}
+use lib.ListN.{length}
 use native.Mathlib.Omega.{arith}
-use Prim.Native.Nat.{_+_, _-_, _*_, _/_}
-use mathlib.Core.Path.{_≡_, refl}
+use Prim.Native.Nat.{_-_}
+use mathlib.Core.Path.{_≡_, refl, _∙_}
 use borrow.Author.Needs.{needs}
 use Rattle.bit_ranges.proofs.copy_bits.Statement.{statement}
 use Rattle.bit_ranges.proofs.copy_bits.Tie as tie
 
-sub-least : tie.Need-sub-least
-sub-least c = search needs
+abbrev Inv-loop : tie.InvT-loop
+Inv-loop from count buf₀ next₀ i₀ buf next i =
+    (length buf ≡ length buf₀) × Partly buf₀ buf next₀ (bitsOf from) count i next
 
-least-requires : tie.Need-least-requires
-least-requires c κs = search needs
+abbrev μ-loop : tie.MeasureT-loop
+μ-loop from count buf₀ next₀ i₀ buf next i = count - i
 
-get-bits-requires : tie.Need-get-bits-requires
+loop-holds : tie.Need-loop-holds Inv-loop μ-loop
+loop-holds c = (refl, partly-none _ _ _ _)
+
+sub-piece : tie.Need-sub-piece Inv-loop μ-loop
+sub-piece c = search needs
+
+piece-requires : tie.Need-piece-requires Inv-loop μ-loop
+piece-requires c κs = search needs
+
+get-bits-requires : tie.Need-get-bits-requires Inv-loop μ-loop
 get-bits-requires c κs = search needs
 
-put-part-requires : tie.Need-put-part-requires
-put-part-requires c κs = search needs
+put-part-requires : tie.Need-put-part-requires Inv-loop μ-loop
+put-part-requires c κs =
+    let turn = c .before .before .before in
+    let l = turn .before .loop in
+    let p = l .inv .1 in
+    let s = turn .before .before .before .before in
+    omega (arith, p .moved, p .whole (turn .loop-test .taken), s .pre, c .before .before .piece .ensures, l .inv .0)
 
-sub-bytes : tie.Need-sub-bytes
-sub-bytes c = search needs
+add-i : tie.Need-add-i Inv-loop μ-loop
+add-i c = search needs
 
-add-copy-bytes : tie.Need-add-copy-bytes
-add-copy-bytes c = search needs
+loop-less : tie.Need-loop-less Inv-loop μ-loop
+loop-less c = search needs
 
-add-copy-bytes-2 : tie.Need-add-copy-bytes-2
-add-copy-bytes-2 c = search needs
+loop-again : tie.Need-loop-again Inv-loop μ-loop
+loop-again c =
+    let put = c .before .before in
+    let m = put .before .before .before .piece in
+    let turn = put .before .before .before .before in
+    let l = turn .before .loop in
+    let a = turn .before .before .before .before .args in (
+      put .put-part .kept .0 ∙ l .inv .0,
+      partly-more (bitsOf (a .from .now)) (l .inv .1) (turn .loop-test .taken) (omega (arith, length-bitsOf (a .from .now))) (m .ensures)
+          (put .before .before .get-bits .ensures) (put .put-part .ensures),
+    )
 
-copy-bytes-requires : tie.Need-copy-bytes-requires
-copy-bytes-requires c κs = search needs
-
-mul-done : tie.Need-mul-done
-mul-done c = search needs
-
-add-done : tie.Need-add-done
-add-done c = search needs
-
-add-get-bits : tie.Need-add-get-bits
-add-get-bits c = search needs
-
-sub-get-bits : tie.Need-sub-get-bits
-sub-get-bits c = search needs
-
-get-bits-requires-2 : tie.Need-get-bits-requires-2
-get-bits-requires-2 c κs = search needs
-
-add-put-part : tie.Need-add-put-part
-add-put-part c = search needs
-
-sub-put-part : tie.Need-sub-put-part
-sub-put-part c = search needs
-
-put-part-requires-2 : tie.Need-put-part-requires-2
-put-part-requires-2 c κs = search needs
-
-same-length : tie.Need-same-length
+same-length : tie.Need-same-length Inv-loop μ-loop
 same-length c = search needs
 
-returns : tie.Need-returns
-returns c =
-    let three = c .before .before in
-    let got = three .before .before in
-    let two = got .before .before .before in
-    let one = two .before .before .before .before in
-    let got₁ = one .before .before in
-    let s = got₁ .before .before .before .before in
-    let bits = bitsOf (s .args .from .now) in
-    let d = bitsOf (s .args .buf .now) in
-    let skip = s .args .skip in
-    let at = s .args .at in
-    let count = s .args .count in
-    let first = got₁ .before .least .result in
-    let bytes = (count - first) / 8 in
-    let fits = length-bitsOf (s .args .from .now) in
-    let here : skip + 0 ≡ skip = omega arith in
-    let none = slice-none bits skip (skip + 0) (omega arith) in
-    let done = first + 8 * bytes in
-    let after₁ =
-    copied-part bits d at skip 0 first first _ at (omega (arith, fits)) (omega arith) (omega arith) (rw none)
-    (rw here (got₁ .get-bits .ensures)) (one .put-part .ensures) in
-    let after₂ =
-    copied-bytes bits d at skip first bytes done _ (omega (arith, fits)) (λ h. omega arith) refl after₁ (two .copy-bytes .ensures) in
-    copied-part bits d at skip done (count - done) count _ _ (omega (arith, fits)) refl (omega arith) after₂
-    (got .get-bits2 .ensures) (three .put-part2 .ensures)
+returns : tie.Need-returns Inv-loop μ-loop
+returns c = partly-all (c .before .before .before .before .args .count) (c .before .loop .inv .1) (omega arith) (omega arith)
 
 pub copy-bits-spec : {M : Type 1} → statement M
 copy-bits-spec =
     tie.close
     (tie.spec
-    sub-least
-    least-requires
+    Inv-loop
+    μ-loop
+    loop-holds
+    sub-piece
+    piece-requires
     get-bits-requires
     put-part-requires
-    sub-bytes
-    add-copy-bytes
-    add-copy-bytes-2
-    copy-bytes-requires
-    mul-done
-    add-done
-    add-get-bits
-    sub-get-bits
-    get-bits-requires-2
-    add-put-part
-    sub-put-part
-    put-part-requires-2
+    add-i
+    loop-less
+    loop-again
     same-length
     returns)

@@ -8,6 +8,7 @@ use lib.ListN.{length}
 use native.Mathlib.Nat.{lt-of-lt-of-le}
 use native.Mathlib.Omega.{arith}
 use Prim.Native.Nat.{ℕ, _+_, _≤_}
+use mathlib.Core.Bool.{false}
 use mathlib.Core.Path.{_≡_, sym, ap, _∙_}
 use borrow.Author.Needs.{needs}
 use Rattle.bits.proofs.get_number.Statement.{statement}
@@ -52,7 +53,7 @@ loop-again c =
     let d = bitsOf (a .buf .now) in (
       search needs,
       rw (c .with-digit .ensures, c .before .get .ensures)
-          (number-next d (a .at) (l .i) (a .at + a .count) (l .n) (c .before .before .loop-test .taken) (omega arith)
+          (number-next d false (a .at) (l .i) (a .at + a .count) (l .n) (c .before .before .loop-test .taken) (omega arith)
           (omega (arith, length-bitsOf (a .buf .now))) (l .inv .1)),
     )
 

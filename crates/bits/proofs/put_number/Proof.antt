@@ -1,10 +1,14 @@
--- The invariant: the bits that are left, written from here, give what all of them give from the start. Assumes nothing.
-use Rattle.bits.proofs.WriteLaws.{number-more}
+-- The invariant: who writes the bits that are left, from here, has written all of them from the start. Assumes nothing.
+use Rattle.bits.proofs.WriteLaws.{written-none, number-more}
 use Rattle.bits.proofs.NumberLaws.{length-numberBits}
-use Rattle.bits.specs.Stream.{numberBits, bitsOf, write}
+use Rattle.bits.specs.declared.Cursor.{Cursor}
+use Rattle.bits.specs.Stream.{numberBits}
+use Rattle.bits.specs.Calls.{Written}
 use lib.ListN.{length}
+use lib.Pow.{pow-pos}
 use native.Mathlib.Omega.{arith}
-use Prim.Native.Nat.{_+_}
+use Prim.Native.Nat.{ℕ, _+_, _≤_}
+use mathlib.Core.List.{List}
 use mathlib.Core.Path.{_≡_, refl, _∙_}
 use borrow.Author.Needs.{needs}
 use Rattle.bits.proofs.put_number.Statement.{statement}
@@ -12,17 +16,26 @@ use Rattle.bits.proofs.put_number.Tie as tie
 
 abbrev Inv-loop : tie.InvT-loop
 Inv-loop buf₀ limit v count next₀ left₀ rest₀ buf next left rest =
-    (length buf ≡ length buf₀) × (next .at + left ≡ next₀ .at + count)
-    × (write (bitsOf buf) (next .at) limit (numberBits left rest) ≡ write (bitsOf buf₀) (next₀ .at) limit (numberBits count v))
+    (length buf ≡ length buf₀) × (next .at + left ≡ next₀ .at + count) × (next .writes ≤ next .at)
+    × ((after : List ℕ) (end : Cursor) → Written buf after next limit (numberBits left rest) end → Written buf₀ after next₀ limit (numberBits count v) end)
 
 abbrev μ-loop : tie.MeasureT-loop
 μ-loop buf₀ limit v count next₀ left₀ rest₀ buf next left rest = left
 
 loop-holds : tie.Need-loop-holds Inv-loop μ-loop
-loop-holds c = (refl, refl, refl)
+loop-holds c = (refl, refl, c .before .pre .2, (λ after end w. w))
+
+piece-requires : tie.Need-piece-requires Inv-loop μ-loop
+piece-requires c κs = search needs
 
 put-bits-requires : tie.Need-put-bits-requires Inv-loop μ-loop
 put-bits-requires c κs = search needs
+
+power-requires : tie.Need-power-requires Inv-loop μ-loop
+power-requires c κs = search needs
+
+div-rest : tie.Need-div-rest Inv-loop μ-loop
+div-rest c = omega (arith, c .power .ensures, pow-pos (c .before .before .before .before .before .piece .result))
 
 sub-left : tie.Need-sub-left Inv-loop μ-loop
 sub-left c = search needs
@@ -32,29 +45,26 @@ loop-less c = search needs
 
 loop-again : tie.Need-loop-again Inv-loop μ-loop
 loop-again c =
-    let call = c .before .before in
-    let l = call .before .before .before .loop in
-    let s = call .before .before .before .before .before in (
-      call .put-bits .kept .0 ∙ l .inv .0,
-      omega (arith, call .put-bits .ensures .moved, length-numberBits 8 (l .rest)),
-      number-more (l .next) (s .args .limit) 8 (l .left) (l .rest) (omega arith) (call .put-bits .ensures) ∙ l .inv .2,
+    let put = c .before .before .before in
+    let m = put .before .before .piece in
+    let turn = put .before .before .before .before in
+    let l = turn .loop in
+    let w = put .put-bits .ensures in
+    let bits = length-numberBits (m .result) (l .rest) in (
+      put .put-bits .kept .0 ∙ l .inv .0,
+      omega (arith, w .moved, bits, m .ensures, l .inv .1),
+      omega (arith, w .moved, w .few, l .inv .2),
+      (λ after end rest. l .inv .3 after end (number-more (m .result) (l .left) (l .rest) (omega (arith, m .ensures)) w (rw (← (c .power .ensures)) rest))),
     )
-
-put-bits-requires-2 : tie.Need-put-bits-requires-2 Inv-loop μ-loop
-put-bits-requires-2 c κs = search needs
 
 same-length : tie.Need-same-length Inv-loop μ-loop
 same-length c = search needs
 
 returns : tie.Need-returns Inv-loop μ-loop
 returns c =
-    let call = c .before .before in
-    let l = call .before .before .before .loop in
-    let s = call .before .before .before .before .before in
-    record {
-      bits = call .put-bits2 .ensures .bits ∙ l .inv .2;
-      moved = omega (arith, call .put-bits2 .ensures .moved, length-numberBits (l .left) (l .rest), length-numberBits (s .args .count) (s .args .v));
-    }
+    let l = c .before .loop in
+    let e : l .left ≡ 0 = omega arith in
+    l .inv .3 _ _ (rw e (written-none _ _ _))
 
 pub put-number-spec : {M : Type 1} → statement M
 put-number-spec =
@@ -63,10 +73,12 @@ put-number-spec =
     Inv-loop
     μ-loop
     loop-holds
+    piece-requires
     put-bits-requires
+    power-requires
+    div-rest
     sub-left
     loop-less
     loop-again
-    put-bits-requires-2
     same-length
     returns)

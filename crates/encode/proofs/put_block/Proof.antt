@@ -10,7 +10,7 @@ form-of-requires : tie.Need-form-of-requires
 form-of-requires c κs = search needs
 
 put-number-requires : tie.Need-put-number-requires
-put-number-requires c κs = (search needs, omega (arith, c .before .before .before .form-of .ensures .short))
+put-number-requires c κs = (search needs, omega (arith, c .before .before .before .form-of .ensures .short), search needs)
 
 sub-budget : tie.Need-sub-budget
 sub-budget c = omega (arith, c .before .before .before .before .before .before .before .before .form-of .ensures .short)
@@ -20,7 +20,8 @@ put-integers-requires c κs =
     let number = c .before .before .before .before .before .before .before in
     let made = number .before .before .before .before in
     let bits = length-numberBits (made .form-of .result .bits) (made .form-of .result .head) in
-    (search needs, search needs, search needs, omega (arith, number .put-number .ensures .moved, bits, made .form-of .ensures .short))
+    let w = number .put-number .ensures in
+    (search needs, search needs, search needs, omega (arith, w .moved, bits, made .form-of .ensures .short), omega (arith, w .moved, w .few))
 
 same-length : tie.Need-same-length
 same-length c = search needs

@@ -15,7 +15,7 @@ put-coefficients-requires c κs =
     let s = c .before .before .before .before .before .before .before .before .before .before .before .before in
     let good = s .pre .0 .dimension in
     let few : 4 ^ s .args .d ≤ 256 = power-within (s .args .d) (good .0) (good .1) .1 in
-    (s .pre .0 .sized, s .pre .0 .planes, omega (arith, few, s .pre .1), s .pre .2, s .pre .3)
+    (s .pre .0 .sized, s .pre .0 .planes, omega (arith, few, s .pre .1), s .pre .2, s .pre .3, s .pre .4)
 
 same-length : tie.Need-same-length
 same-length c = search needs

@@ -6,7 +6,7 @@ use borrow.Author.Needs.{needs}
 use borrow.Fn.Kinds.{In}
 use borrow.Fn.PlainCycle.{Measures, is, falls, and}
 use lib.ListN.{length}
-use Rattle.plane_writer.proofs.Steps.{advanced-none, advanced-one, advanced-more}
+use Rattle.bits.proofs.WriteLaws.{written-none, written-append}
 use Rattle.plane_writer.proofs.Places.{scan-zero, scan-one, scan-last, test-none, test-some, test-end}
 use Rattle.plane_writer.proofs.scan.Reads as scan
 use Rattle.plane_writer.proofs.scan.Kinds as scan-kinds
@@ -19,24 +19,24 @@ use Rattle.plane_writer.proofs.bit_at.Reads as bit-at-reads
 use Rattle.plane_writer.proofs.+scan+test.{statement}
 use Rattle.plane_writer.proofs.+scan+test.Tie.{close}
 
-abbrev μ-scan : Measures 2 scan-kinds.ps ℕ
+abbrev μ-scan : Measures 3 scan-kinds.ps ℕ
 μ-scan κs a = 2 * (length (a .0 .now) - a .1 .1 .1 .0)
 
-abbrev μ-test : Measures 2 test-kinds.ps ℕ
+abbrev μ-test : Measures 3 test-kinds.ps ℕ
 μ-test κs a = 2 * (length (a .0 .now) - a .1 .1 .1 .0) + 1
 
 module _ (t : ℕ) where
-  abbrev scan-at : In 2 scan-kinds.ps
-  scan-at = and 2 scan-kinds.ps (is 2 scan-kinds.ps μ-scan t) scan.Pre
+  abbrev scan-at : In 3 scan-kinds.ps
+  scan-at = and 3 scan-kinds.ps (is 3 scan-kinds.ps μ-scan t) scan.Pre
 
-  abbrev scan-below : In 2 scan-kinds.ps
-  scan-below = and 2 scan-kinds.ps (falls 2 scan-kinds.ps _<_ μ-scan t) scan.Pre
+  abbrev scan-below : In 3 scan-kinds.ps
+  scan-below = and 3 scan-kinds.ps (falls 3 scan-kinds.ps _<_ μ-scan t) scan.Pre
 
-  abbrev test-at : In 2 test-kinds.ps
-  test-at = and 2 test-kinds.ps (is 2 test-kinds.ps μ-test t) test.Pre
+  abbrev test-at : In 3 test-kinds.ps
+  test-at = and 3 test-kinds.ps (is 3 test-kinds.ps μ-test t) test.Pre
 
-  abbrev test-below : In 2 test-kinds.ps
-  test-below = and 2 test-kinds.ps (falls 2 test-kinds.ps _<_ μ-test t) test.Pre
+  abbrev test-below : In 3 test-kinds.ps
+  test-below = and 3 test-kinds.ps (falls 3 test-kinds.ps _<_ μ-test t) test.Pre
 
   abbrev scan-calls : scan-lts.Claims
   scan-calls = (bit-at-reads.Asked, bit-at-reads.Learnt, put-reads.Asked, put-reads.Learnt, test-below, test.Post, scan-below, scan.Post)
@@ -64,32 +64,31 @@ module _ (t : ℕ) where
 
   scan-returns : scan-lts.Need-returns scan-calls scan-at scan.Post
   scan-returns c =
-      let test2 = c .before .before .before .before in
+      let test2 = c .before .before .before .before .before in
       let put = test2 .before .before .before in
-      let bit = put .before .before in
+      let bit = put .before .before .before in
       let test1 = bit .before in
       let s = test1 .before .before .before in
       let l = scan-one (s .args .k) (s .args .words .now) (s .args .n) (test1 .if1 .taken) (sym (bit .bit-at .ensures) ∙ test2 .if2 .taken) in
-      advanced-more (rw (test2 .if2 .taken) at (put .put .ensures)) (l .0) (l .1) (c .before .before .test .ensures)
+      rw l (written-append (rw (test2 .if2 .taken) at (put .put .ensures)) (c .before .before .test .ensures))
 
   scan-same-length-2 : scan-lts.Need-same-length-2 scan-calls scan-at scan.Post
   scan-same-length-2 c = search needs
 
   scan-returns-2 : scan-lts.Need-returns-2 scan-calls scan-at scan.Post
   scan-returns-2 c =
-      let test2 = c .before .before .before .before in
+      let test2 = c .before .before .before .before .before in
       let put = test2 .before .before .before in
-      let bit = put .before .before in
+      let bit = put .before .before .before in
       let test1 = bit .before in
       let s = test1 .before .before .before in
       let l = scan-zero (s .args .k) (s .args .words .now) (s .args .n) (test1 .if1 .taken) (sym (bit .bit-at .ensures) ∙ test2 .if2 .left) in
-      advanced-more (rw (test2 .if2 .left) at (put .put .ensures)) (l .0) (l .1) (c .before .before .scan .ensures)
+      rw l (written-append (rw (test2 .if2 .left) at (put .put .ensures)) (c .before .before .scan .ensures))
 
   scan-returns-3 : scan-lts.Need-returns-3 scan-calls scan-at scan.Post
   scan-returns-3 c =
       let s = c .before .before .before in
-      let l = scan-last (s .args .k) (s .args .words .now) (s .args .n) (omega arith) (c .if1 .left) in
-      advanced-none (l .0) (l .1)
+      rw (scan-last (s .args .k) (s .args .words .now) (s .args .n) (omega arith) (c .if1 .left)) (written-none _ _ _)
 
   test-put-requires : test-lts.Need-put-requires test-calls test-at test.Post
   test-put-requires c κs = search needs
@@ -105,11 +104,9 @@ module _ (t : ℕ) where
 
   test-returns : test-lts.Need-returns test-calls test-at test.Post
   test-returns c =
-      let put = c .before .before .before .before .before .before in
-      let test2 = put .before .before in
-      let s = test2 .before .before .before .before in
-      let l = test-some (s .args .k) (s .args .words .now) (s .args .n) (omega arith) in
-      advanced-more (put .put .ensures) (l .0) (l .1) (c .before .before .scan .ensures)
+      let put = c .before .before .before .before .before .before .before in
+      let s = put .before .before .before .before .before .before .before in
+      rw (test-some (s .args .k) (s .args .words .now) (s .args .n) (omega arith)) (written-append (put .put .ensures) (c .before .before .scan .ensures))
 
   test-same-length-2 : test-lts.Need-same-length-2 test-calls test-at test.Post
   test-same-length-2 c = search needs
@@ -118,15 +115,13 @@ module _ (t : ℕ) where
   test-returns-2 c =
       let put = c .before .before in
       let test2 = put .before .before in
-      let s = test2 .before .before .before .before in
-      let l = test-none (s .args .k) (s .args .words .now) (s .args .n) (test2 .before .if1 .taken) (omega arith) in
-      advanced-one (put .put2 .ensures) (l .0) (l .1)
+      let s = test2 .before .before .before .before .before in
+      rw (test-none (s .args .k) (s .args .words .now) (s .args .n) (test2 .before .if1 .taken) (omega arith)) (put .put2 .ensures)
 
   test-returns-3 : test-lts.Need-returns-3 test-calls test-at test.Post
   test-returns-3 c =
-      let s = c .before .before .before in
-      let l = test-end (s .args .k) (s .args .words .now) (s .args .n) (c .if1 .left) in
-      advanced-none (l .0) (l .1)
+      let s = c .before .before .before .before in
+      rw (test-end (s .args .k) (s .args .words .now) (s .args .n) (c .if1 .left)) (written-none _ _ _)
 
 pub +scan+test-spec : {M : Type 1} → statement M
 +scan+test-spec =

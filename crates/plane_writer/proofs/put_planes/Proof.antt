@@ -1,14 +1,12 @@
 -- The loop's invariant: who writes the planes that are left, from here, has written all of them from the start, and who counts those of them that are
 -- whole has counted all.
 use mathlib.Core.Path.{_≡_, refl, ap, _∙_}
-use mathlib.Core.Bool.{Bool}
 use mathlib.Core.List.{List}
 use Prim.Native.Nat.{ℕ, _+_, _-_, _*_, _≤_}
 use native.Mathlib.Omega.{arith}
 use borrow.Author.Needs.{needs}
 use lib.ListN.{length}
 use Rattle.bits.specs.declared.Cursor.{Cursor}
-use Rattle.bits.specs.Stream.{bitsOf}
 use Rattle.bits.specs.Calls.{Written}
 use Rattle.bits.proofs.WriteLaws.{written-none}
 use Rattle.planes.specs.Coder.{planesOf, codeFrom, planesCode, endsFrom, within, planesWithin}
@@ -20,11 +18,11 @@ use Rattle.plane_writer.proofs.put_planes.Tie as tie
 abbrev Inv-loop : tie.InvT-loop
 Inv-loop size words p buf₀ out limit budget lowest next₀ n₀ whole₀ k₀ buf next n whole k =
     (lowest ≤ k) × (k ≤ size) × (n ≤ length words) × (length buf ≡ length buf₀) × (next .at ≤ out .at + 512 * (size - k))
-    × ((after : List Bool) (end : Cursor)
-    → Written (bitsOf buf) after next limit (codeFrom n (planesOf k (k - lowest) words)) end
-    → Written (bitsOf buf₀) after out limit (planesCode size p words) end)
+    × ((after : List ℕ) (end : Cursor)
+    → Written buf after next limit (codeFrom n (planesOf k (k - lowest) words)) end
+    → Written buf₀ after out limit (planesCode size p words) end)
     × (out .at ≤ next .at) × (whole ≤ size - k)
-    × (whole + within budget (endsFrom (next .at - out .at) n (planesOf k (k - lowest) words)) ≡ planesWithin size p budget words)
+    × (whole + within budget (endsFrom (next .at - out .at) n (planesOf k (k - lowest) words)) ≡ planesWithin size p budget words) × (next .writes ≤ next .at)
 
 abbrev μ-loop : tie.MeasureT-loop
 μ-loop size words p buf₀ out limit budget lowest next₀ n₀ whole₀ k₀ buf next n whole k = k
@@ -39,7 +37,7 @@ loop-holds c =
     let a = s .args in
     let e : a .size - (a .size - a .p) ≡ a .p = omega arith in
     let z : a .out .at - a .out .at ≡ 0 = omega arith in
-    (omega arith, omega arith, omega arith, refl, omega arith, (λ after end w. rw e at w), omega arith, omega arith, rw (e, z) (omega arith))
+    (omega arith, omega arith, omega arith, refl, omega arith, (λ after end w. rw e at w), omega arith, omega arith, rw (e, z) (omega arith), s .pre .5)
 
 sub-k : tie.Need-sub-k Inv-loop μ-loop
 sub-k c = search needs
@@ -83,6 +81,7 @@ loop-again c =
       omega (arith, c .within .ensures .1, l .inv .7),
       count-more (s .args .size - s .args .p) (l .k) (l .n) _ (s .args .budget) (l .whole) ws (turn .loop-test .taken)
           (omega (arith, r .written .moved, l .inv .6)) (r .moved) (ap (λ (m : ℕ). l .whole + m) (c .within .ensures .0)) (l .inv .8),
+      omega (arith, r .written .moved, r .written .few, l .inv .9),
     )
 
 same-length : tie.Need-same-length Inv-loop μ-loop
