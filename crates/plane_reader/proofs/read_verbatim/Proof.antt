@@ -1,31 +1,64 @@
--- The invariant: the first bits that are left, added from here, give what all of them give from the start. Assumes nothing.
-use borrow.Author.Needs.{needs}
-use Rattle.plane_reader.proofs.Reading.{add-none, verbatim-more, room-bit}
-use Rattle.planes.specs.Calls.{addAt, Room}
+-- The invariant: the bits passed are added. Assumes nothing.
+use Rattle.plane_reader.proofs.Reading.{add-none, room-past, verbatim-more, first-least}
+use Rattle.planes.specs.Calls.{addAt}
 use Rattle.bits.specs.Stream.{bitsOf}
-use lib.Seq.{slice}
-use lib.ListN.{length, take, drop}
+use Rattle.bits.proofs.StreamLaws.{length-bitsOf, slice-rest}
+use lib.Seq.{slice, length-slice}
+use lib.ListN.{length, take}
 use native.Mathlib.Omega.{arith}
-use native.Mathlib.Nat.{sub-zero}
-use Prim.Native.Nat.{suc, _≤_, _<_, _-_, _+_}
+use Prim.Native.Nat.{_≤_, _-_}
 use mathlib.Core.Path.{_≡_, refl, sym, _∙_}
+use borrow.Author.Needs.{needs}
 use Rattle.plane_reader.proofs.read_verbatim.Statement.{statement}
 use Rattle.plane_reader.proofs.read_verbatim.Tie as tie
 
 abbrev Inv-loop : tie.InvT-loop
-Inv-loop buf at end words₀ k n next₀ i₀ words next i =
-    (i ≤ n) × (length words ≡ length words₀) × (next ≤ end) × Room 64 (suc k) (drop i words)
-    × (addAt i k (take (n - i) (slice next end (bitsOf buf))) words ≡ addAt 0 k (take n (slice at end (bitsOf buf))) words₀)
-    × (drop (n - i) (slice next end (bitsOf buf)) ≡ drop n (slice at end (bitsOf buf)))
+Inv-loop buf at end words₀ k n m i₀ words i =
+    (i ≤ m) × (length words ≡ length words₀) × (words ≡ addAt 0 k (take i (slice at end (bitsOf buf))) words₀)
 
 abbrev μ-loop : tie.MeasureT-loop
-μ-loop buf at end words₀ k n next₀ i₀ words next i = n - i
+μ-loop buf at end words₀ k n m i₀ words i = m - i
+
+returns : tie.Need-returns Inv-loop μ-loop
+returns c =
+    let s = c .before .before .before in
+    let e : s .args .n ≡ 0 = omega arith in
+    rw e (sym (add-none 0 (s .args .k) (s .args .words .now)), refl, s .pre .3)
+
+sub-least : tie.Need-sub-least Inv-loop μ-loop
+sub-least c = search needs
+
+least-requires : tie.Need-least-requires Inv-loop μ-loop
+least-requires c κs = search needs
 
 loop-holds : tie.Need-loop-holds Inv-loop μ-loop
-loop-holds c = (search needs, refl, search needs, c .before .before .pre .4, rw sub-zero, rw sub-zero)
+loop-holds c =
+    let a = c .before .before .before .before .args in
+    (search needs, refl, sym (add-none 0 (a .k) (a .words .now)))
 
-read-bit-requires : tie.Need-read-bit-requires Inv-loop μ-loop
-read-bit-requires c κs = search needs
+add-piece : tie.Need-add-piece Inv-loop μ-loop
+add-piece c = search needs
+
+sub-piece : tie.Need-sub-piece Inv-loop μ-loop
+sub-piece c = search needs
+
+piece-requires : tie.Need-piece-requires Inv-loop μ-loop
+piece-requires c κs = search needs
+
+add-read-bits : tie.Need-add-read-bits Inv-loop μ-loop
+add-read-bits c = search needs
+
+read-bits-requires : tie.Need-read-bits-requires Inv-loop μ-loop
+read-bits-requires c κs =
+    let l = c .before .before .before .loop in
+    let s = c .before .before .before .before .before .before .before .before in
+    let a = s .args in (
+      search needs,
+      search needs,
+      search needs,
+      search needs,
+      rw (l .inv .2) (room-past 64 _ (a .k) (l .i) (slice (a .at) (a .end) (bitsOf (a .buf .now))) (a .words .now) (s .pre .4)),
+    )
 
 add-i : tie.Need-add-i Inv-loop μ-loop
 add-i c = search needs
@@ -36,30 +69,31 @@ loop-less c = search needs
 loop-again : tie.Need-loop-again Inv-loop μ-loop
 loop-again c =
     let call = c .before .before in
-    let turn = call .before .before in
-    let l = turn .before .loop in
-    let s = turn .before .before .before .before in
-    let bits = slice (l .next) (s .args .end) (bitsOf (s .args .buf .now)) in
-    let few : l .i < length (l .words) = omega arith in
-    let e : s .args .n - l .i ≡ suc (s .args .n - (l .i + 1)) = omega arith in
-    let more = verbatim-more (s .args .k) (l .i) (s .args .n - (l .i + 1)) bits (l .words) _ few (call .read-bit .ensures .0) in (
+    let part = call .before .before in
+    let l = part .before .before .loop in
+    let a = part .before .before .before .before .before .before .before .args in (
       search needs,
-      call .read-bit .kept .1 .1 .1 .0 ∙ l .inv .1,
-      call .read-bit .ensures .2,
-      room-bit 64 (s .args .k) (l .i) bits (l .words) _ few (call .read-bit .ensures .0) (l .inv .3),
-      rw (call .read-bit .ensures .1) (more .0 ∙ (rw e at (l .inv .4))),
-      rw (call .read-bit .ensures .1) (more .1 ∙ (rw e at (l .inv .5))),
+      call .read-bits .kept .1 .1 .1 .0 ∙ l .inv .1,
+      verbatim-more (a .k) (a .at) (a .end) (l .i) (part .piece .result) (bitsOf (a .buf .now)) (a .words .now)
+          (omega arith) (omega (arith, length-bitsOf (a .buf .now))) (omega arith) (l .inv .2) (call .read-bits .ensures),
     )
+
+add-result : tie.Need-add-result Inv-loop μ-loop
+add-result c = search needs
 
 same-length : tie.Need-same-length Inv-loop μ-loop
 same-length c = search needs
 
-returns : tie.Need-returns Inv-loop μ-loop
-returns c =
+returns-2 : tie.Need-returns-2 Inv-loop μ-loop
+returns-2 c =
     let l = c .before .loop in
-    let s = c .before .before .before .before in
-    let e : s .args .n - l .i ≡ 0 = omega arith in
-    (sym (add-none (l .i) (s .args .k) (l .words)) ∙ (rw e at (l .inv .4)), rw e at (l .inv .5), l .inv .2)
+    let m = c .before .before in
+    let a = m .before .before .before .before .args in
+    let d = bitsOf (a .buf .now) in
+    let long = length-slice (a .at) (a .end) d (omega (arith, length-bitsOf (a .buf .now))) in
+    let first = rw (long, ← (m .least .ensures)) at (first-least (a .n) (slice (a .at) (a .end) d)) in
+    let e : l .i ≡ m .least .result = omega arith in
+    (l .inv .2 ∙ rw (e, first .0), slice-rest d (a .at) (m .least .result) (a .end) ∙ first .1, omega arith)
 
 pub read-verbatim-spec : {M : Type 1} → statement M
 read-verbatim-spec =
@@ -67,10 +101,18 @@ read-verbatim-spec =
     (tie.spec
     Inv-loop
     μ-loop
+    returns
+    sub-least
+    least-requires
     loop-holds
-    read-bit-requires
+    add-piece
+    sub-piece
+    piece-requires
+    add-read-bits
+    read-bits-requires
     add-i
     loop-less
     loop-again
+    add-result
     same-length
-    returns)
+    returns-2)
