@@ -85,6 +85,25 @@ fn slots_at_every_bit_offset() {
     }
 }
 
+/// Words with bits of every weight: after a few planes all of a plane's bits are leading bits. With eight slots side by side and
+/// sixteen widths in a row they start at every bit of a byte and are cut at every bit of one.
+#[test]
+fn leading_bits_from_every_bit_and_cut_at_every_bit() {
+    let mut random = Random::new(18);
+    for (kind, dimension, _) in all_kinds().filter(|kind| kind.2 == LOSSY) {
+        let n = 4u32.pow(dimension);
+        for width in (0..16).map(|more| 16 + 3 * n + more) {
+            let p = Params { kind, dimension, mode: LOSSY, planes: 32, width };
+            let mut archive = archive_for(&mut random, &p, 8);
+            for slot in 0..8 {
+                let words: Vec<u32> = (0..n).map(|_| random.word() & !0x0080_0000).collect();
+                compare_all(&p, &archive, slot, &words);
+                (_, archive) = compare_store(&p, &archive, slot, &words);
+            }
+        }
+    }
+}
+
 #[test]
 fn the_largest_archive_and_its_last_slot() {
     let mut random = Random::new(5);
