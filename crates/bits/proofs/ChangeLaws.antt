@@ -21,7 +21,7 @@ changed-set [] i x = omega arith
 changed-set (a ∷ l) zero x = omega (arith, changed-none l, digit-lt (not (eqb a x)))
 changed-set (a ∷ l) (suc i) x = rw (eq-eqb a a refl) (omega (arith, changed-set l i x))
 
--- what two writers change together, each changes
+-- two writers, one after the other, change no more bytes than each by itself, added up
 pub changed-more : (l m n : List ℕ) → length m ≡ length l → changed l n ≤ changed l m + changed m n
 changed-more [] m n e = omega arith
 changed-more (a ∷ l) [] n e = absurd (omega arith)
