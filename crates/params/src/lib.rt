@@ -1,4 +1,4 @@
-// A caller's parameters, the sizes that follow from them, and the rows of document 01's table that speak of them: 1 to 8; a code's length by mode.
+// A caller's parameters, the sizes that follow from them, and the rows of the table of answers that speak of them: 1 to 8 and 13; a code's length by mode.
 pub mod code;
 pub mod rows;
 pub mod width;
@@ -10,7 +10,12 @@ pub struct Params {
     pub mode: u32,
     pub planes: u32,
     pub width: u32,
+    // The lowest exponent q, as q + 300.
+    pub lowest: u32,
 }
+
+// What a lowest exponent is raised by; it goes from -300 to 300.
+pub const LOWEST_OFFSET: u32 = 300;
 
 // The greatest dimension, and N of that dimension.
 pub const TOP_DIMENSION: u32 = 4;

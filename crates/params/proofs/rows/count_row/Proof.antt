@@ -1,4 +1,4 @@
--- Rows 1 to 5 first, then row 6. Assumes nothing.
+-- The rows of the parameters first, then row 6. Assumes nothing.
 use mathlib.Core.Path.{refl, sym, _∙_}
 use mathlib.Core.List.{[], _∷_}
 use Rattle.params.specs.Rows.{parameterRows, row6}

@@ -1,4 +1,4 @@
--- Rows 1 to 6 first, which give what the slot count needs, then rows 7 and 8. Assumes nothing.
+-- The rows of the slot count first, which give what the slot count needs, then rows 7 and 8. Assumes nothing.
 use mathlib.Core.Path.{refl, sym, _∙_}
 use mathlib.Core.List.{[], _∷_}
 use Rattle.params.specs.Rows.{countRows, row7, row8}
