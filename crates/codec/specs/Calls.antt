@@ -21,6 +21,7 @@ use Rattle.codec.specs.declared.change.Change.the-variants.{ToInteger, T
 use Rattle.codec.specs.Head.{exactPlanes}
 use Rattle.codec.specs.Code.{lossyPlanes, floatPlanes, exactIntegers, exactFloats}
 use Rattle.codec.specs.Depth.{wholeIntegers, wholeWritten}
+use Rattle.codec.specs.Lowest.{planesCoded, unlessNone}
 
 -- ---- blocks, and the bits that are read
 
@@ -72,9 +73,17 @@ uncutCode f true false d p ws = uncutFloats f d p ws
 uncutCode f false true d p ws = exactIntegers f d ws
 uncutCode f true true d p ws = exactFloats f d ws
 
--- a block's form: what stands in front of its planes, as a number of so many bits, whether planes follow, and the integers ws′ that they are of; what
--- it takes of the width is not in the budget of the planes
-pub record Formed (f : Format) (float exact : Bool) (ws ws′ : List ℕ) (head bits : ℕ) (planes : Bool) : Type 0 where
-  pub code : (d p : ℕ) → uncutCode f float exact d p ws ≡ numberBits bits head ++ cond planes (integersCode f exact d p ws′) []
-  pub whole : (d p width : ℕ) → wholeWritten f float exact d p width ws ≡ cond planes (wholeIntegers f exact d p (width - bits) ws′) 0
+-- with a lowest exponent: as many planes as it leaves
+unfoldable pub uncutTo : Format → Bool → Bool → ℕ → ℕ → ℕ → List ℕ → List Bool
+uncutTo f float exact d p lowest ws =
+    let k = planesCoded f float exact d p lowest ws in
+    unlessNone float exact k (uncutCode f float exact d k ws)
+
+-- a block's form: what stands in front of its planes, as a number of so many bits, whether planes follow, how many in lossy mode (k), and the integers
+-- ws′ that they are of; what it takes of the width is not in the budget of the planes
+pub record Formed (f : Format) (float exact : Bool) (d p lowest : ℕ) (ws ws′ : List ℕ) (head bits : ℕ) (planes : Bool) (k : ℕ) : Type 0 where
+  pub code : uncutTo f float exact d p lowest ws ≡ numberBits bits head ++ cond planes (integersCode f exact d k ws′) []
+  pub whole : (width : ℕ) → wholeWritten f float exact d (planesCoded f float exact d p lowest ws) width ws
+      ≡ cond planes (wholeIntegers f exact d k (width - bits) ws′) 0
+  pub few : k ≤ p
   pub short : bits ≤ 13

@@ -1,11 +1,13 @@
-// What the head of a code says: how many planes there are, and in how many bits.
+// How many planes there are, by the words or by a lowest exponent, and in how many bits a head says its numbers.
 ghost use mathlib.Core.Path.{_≡_};
 ghost use Prim.Native.Nat.{suc, _^_, _≤_};
-ghost use lib.Ieee.{ones};
+ghost use lib.Ieee.{emax, ones};
 ghost use Rattle.words.specs.Calls.{Size};
 ghost use Rattle.floats.specs.Pattern.{fieldBits};
 ghost use Rattle.floats.specs.Calls.{formatOf};
 ghost use Rattle.codec.specs.Head.{planesNeeded, countBits};
+ghost use Rattle.codec.specs.Lowest.{planesAt};
+use params::LOWEST_OFFSET;
 
 // The smallest count of planes, of words of `size` bits, from 1 such that all lower planes are zero.
 pub fn planes_needed(size: u32, us: &[u64]) -> u32
@@ -21,6 +23,28 @@ pub fn planes_needed(size: u32, us: &[u64]) -> u32
         p -= 1;
     }
     1
+}
+
+// What an exponent field is above its exponent.
+fn bias(size: u32) -> u32
+    requires { ⌜ Size size ⌝ }
+    ensures { λ r. ⌜ r ≡ emax (formatOf size) ⌝ }
+{
+    if size == 32 { 127 } else { 1023 }
+}
+
+// How many of p planes a lowest exponent, raised by 300, leaves at e.
+pub fn planes_at(size: u32, d: u32, p: u32, lowest: u32, e: u32) -> u32
+    requires { ⌜ Size size ⌝ }
+    ensures { λ r. ⌜ (r ≡ planesAt (formatOf size) d p lowest e) × (r ≤ p) ⌝ }
+{
+    let high = e as u64 + LOWEST_OFFSET as u64 + 2 * (d as u64 + 1);
+    let low = bias(size) as u64 + lowest as u64;
+    if high <= low {
+        return 0;
+    }
+    let left = high - low;
+    if left < p as u64 { left as u32 } else { p }
 }
 
 // How many bits say p - 1.

@@ -14,6 +14,7 @@ use Rattle.floats.specs.Pattern.{wordSize, fieldBits}
 use Rattle.codec.specs.Calls.Padded.{paddedMultiples, paddedFlipped, paddedFloats}
 use Rattle.codec.specs.Read.{readIntegers, scaledBy, readExactFloats, readLossyFloats, readCode}
 use Rattle.codec.specs.Depth.{wholeCoefficients, wholeLossyFloats, wholeExactFloats}
+use Rattle.codec.specs.Lowest.{planesHeaded}
 
 -- a block of integers, by mode
 pub integers-read : {ws : List ℕ} (f : Format) (exact : Bool) (d p : ℕ) (s : List Bool) → ws ≡ readIntegers f exact d p s → ws ≡ readCode f false exact d p s
@@ -30,16 +31,22 @@ module _ (f : Format) (dim p : ℕ) (d : List Bool) (at end : ℕ) (b : Bool) (f
   abbrev later : ℕ → List Bool
   later n = slice (at + n) end d
 
-  pub lossy-zero : {ws : List ℕ} → at < end → b ≡ false → ws ≡ replicate (4 ^ dim) 0
-      → (ws ≡ readLossyFloats f dim p (slice at end d)) × (0 ≡ wholeLossyFloats f dim p (slice at end d))
-  unfolding readLossyFloats wholeLossyFloats
-  lossy-zero h e w = rw (one h, e) (w, refl)
+  -- what reading them in lossy mode gives, with a lowest exponent
+  abbrev LossyRead : ℕ → List ℕ → ℕ → Type 0
+  LossyRead lowest ws n =
+      let k = planesHeaded f dim p lowest (drop 1 (slice at end d)) in
+      (ws ≡ readLossyFloats f dim k (slice at end d)) × (n ≡ wholeLossyFloats f dim k (slice at end d))
 
-  pub lossy-some : {ws : List ℕ} {n : ℕ} → at < end → b ≡ true → ws ≡ scaledBy f (readIntegers f false dim p) (later 1)
-      → n ≡ wholeCoefficients f false (4 ^ dim) p (drop (fieldBits f) (later 1))
-      → (ws ≡ readLossyFloats f dim p (slice at end d)) × (n ≡ wholeLossyFloats f dim p (slice at end d))
+  pub lossy-zero : {ws : List ℕ} (lowest : ℕ) → at < end → b ≡ false → ws ≡ replicate (4 ^ dim) 0 → LossyRead lowest ws 0
   unfolding readLossyFloats wholeLossyFloats
-  lossy-some h e w k = rw (one h, e) (w, k)
+  lossy-zero lowest h e w = rw (one h, e) (w, refl)
+
+  pub lossy-some : {ws : List ℕ} {n : ℕ} (lowest : ℕ) → at < end → b ≡ true
+      → ws ≡ scaledBy f (readIntegers f false dim (planesHeaded f dim p lowest (later 1))) (later 1)
+      → n ≡ wholeCoefficients f false (4 ^ dim) (planesHeaded f dim p lowest (later 1)) (drop (fieldBits f) (later 1))
+      → LossyRead lowest ws n
+  unfolding readLossyFloats wholeLossyFloats
+  lossy-some lowest h e w k = rw (one h, e) (w, k)
 
   -- what reading float patterns in exact mode gives
   abbrev ExactRead : List ℕ → Bool → ℕ → Type 0

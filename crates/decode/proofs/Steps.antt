@@ -21,6 +21,7 @@ use Rattle.float_blocks.specs.Block.{blockExponent, allZero, allWhole}
 use Rattle.codec.specs.Head.{countBits}
 use Rattle.codec.specs.Read.{readCoefficients, readIntegers, scaledBy}
 use Rattle.codec.specs.Depth.{wholeCoefficients}
+use Rattle.codec.specs.Lowest.{planesAt, planesHeaded}
 use Rattle.codec.specs.Calls.Padded.{smallest, paddedPlanes, multiples, others, paddedMultiples, paddedFlipped}
 
 -- coefficients as the code reads them: the count, the planes, and what follows
@@ -56,6 +57,10 @@ module _ (f : Format) (d p : ℕ) (bs : List Bool) (at end head e : ℕ) (k : he
 
     rest : slice (at + head) end bs ≡ drop (fieldBits f) slot
     rest = slice-rest bs at head end ∙ ap (λ (m : ℕ). drop m slot) k
+
+    -- how many planes a lowest exponent leaves at this e
+    pub headed-read : {k : ℕ} (lowest : ℕ) → k ≡ planesAt f d p lowest e → k ≡ planesHeaded f d p lowest slot
+    headed-read lowest h = h ∙ ap (planesAt f d p lowest) first
 
     pub whole-read : {whole : ℕ} (exact : Bool) (N : ℕ) → whole ≡ wholeCoefficients f exact N p (slice (at + head) end bs)
         → whole ≡ wholeCoefficients f exact N p (drop (fieldBits f) slot)

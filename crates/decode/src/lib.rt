@@ -15,12 +15,14 @@ ghost use Rattle.codec.specs.Calls.{Shape, Range};
 ghost use Rattle.codec.specs.Head.{countBits};
 ghost use Rattle.codec.specs.Read.{readCoefficients, readIntegers, scaledBy, readExactFloats, readLossyFloats, readCode};
 ghost use Rattle.codec.specs.Depth.{wholeCoefficients, wholeLossyFloats, wholeExactFloats, wholeRead};
+ghost use Rattle.codec.specs.Lowest.{planesHeaded, planesRead};
 ghost use Rattle.codec.specs.Calls.Padded.{paddedPlanes, paddedMultiples, paddedFlipped, paddedFloats, paddedBlock};
 use codec::change::Change;
 use codec::change::change_all;
 use codec::change::copy;
 use codec::head::count_bits;
 use codec::head::field_bits;
+use codec::head::planes_at;
 use plane_reader::clear;
 
 // What the reading of a block tells beside its words: whether a reader takes these bits, and how many planes were whole.
@@ -167,11 +169,13 @@ fn read_exact_floats(
     }
 }
 
-// A block of float patterns in lossy mode, by its first bit; then e, and integers, which become patterns at e. How many planes were whole.
+// A block of float patterns in lossy mode, by its first bit; then e, and as many planes of integers, which become patterns at e, as the lowest exponent
+// leaves of p. How many were whole.
 fn read_lossy_floats(
     size: u32,
     d: u32,
     p: u32,
+    lowest: u32,
     buf: &[u8],
     at: usize,
     end: usize,
@@ -180,11 +184,13 @@ fn read_lossy_floats(
 ) -> u32
     requires { ⌜ Shape size d p (length (now words)) × (length (now cs) ≡ 4 ^ d)
         × Range at (1 + fieldBits (formatOf size) + countBits (formatOf size)) end (length (now buf)) ⌝ }
-    ensures { λ r. ⌜ (now (words .exit) ≡ readLossyFloats (formatOf size) d p (slice at end (bitsOf (now (buf .entry)))))
-        × (r ≡ wholeLossyFloats (formatOf size) d p (slice at end (bitsOf (now (buf .entry))))) ⌝ }
+    ensures { λ r. ⌜ (now (words .exit) ≡ readLossyFloats (formatOf size) d
+        (planesHeaded (formatOf size) d p lowest (drop 1 (slice at end (bitsOf (now (buf .entry)))))) (slice at end (bitsOf (now (buf .entry)))))
+        × (r ≡ wholeLossyFloats (formatOf size) d
+        (planesHeaded (formatOf size) d p lowest (drop 1 (slice at end (bitsOf (now (buf .entry)))))) (slice at end (bitsOf (now (buf .entry))))) ⌝ }
 {
     if bits::get(buf, at) {
-        read_scaled(size, d, p, buf, at + 1, end, cs, words)
+        read_scaled(size, d, p, lowest, buf, at + 1, end, cs, words)
     } else {
         clear(words);
         0
@@ -196,6 +202,7 @@ fn read_scaled(
     size: u32,
     d: u32,
     p: u32,
+    lowest: u32,
     buf: &[u8],
     at: usize,
     end: usize,
@@ -204,23 +211,28 @@ fn read_scaled(
 ) -> u32
     requires { ⌜ Shape size d p (length (now words)) × (length (now cs) ≡ 4 ^ d)
         × Range at (fieldBits (formatOf size) + countBits (formatOf size)) end (length (now buf)) ⌝ }
-    ensures { λ r. ⌜ (now (words .exit) ≡ scaledBy (formatOf size) (readIntegers (formatOf size) false d p) (slice at end (bitsOf (now (buf .entry)))))
-        × (r ≡ wholeCoefficients (formatOf size) false (4 ^ d) p (drop (fieldBits (formatOf size)) (slice at end (bitsOf (now (buf .entry)))))) ⌝ }
+    ensures { λ r. ⌜ (now (words .exit) ≡ scaledBy (formatOf size) (readIntegers (formatOf size) false d
+        (planesHeaded (formatOf size) d p lowest (slice at end (bitsOf (now (buf .entry)))))) (slice at end (bitsOf (now (buf .entry)))))
+        × (r ≡ wholeCoefficients (formatOf size) false (4 ^ d) (planesHeaded (formatOf size) d p lowest (slice at end (bitsOf (now (buf .entry)))))
+        (drop (fieldBits (formatOf size)) (slice at end (bitsOf (now (buf .entry)))))) ⌝ }
 {
     let head = field_bits(size);
     let e = bits::get_number(buf, at, head);
-    let read = read_integers(size, false, d, p, buf, at + head, end, cs, words);
+    let k = planes_at(size, d, p, lowest, e);
+    let read = read_integers(size, false, d, k, buf, at + head, end, cs, words);
     change_all(size, Change::ToPattern(e), words);
     read.whole
 }
 
-// The words of a block of dimension d, by kind and mode, from the bits of its slot: p planes if it is lossy. Its coefficients stand in other words.
+// The words of a block of dimension d, by kind and mode, from the bits of its slot: p planes if it is lossy, of floats those that the lowest exponent
+// leaves. Its coefficients stand in other words.
 pub fn read_block(
     size: u32,
     float: bool,
     exact: bool,
     d: u32,
     p: u32,
+    lowest: u32,
     buf: &[u8],
     at: usize,
     end: usize,
@@ -229,9 +241,11 @@ pub fn read_block(
 ) -> BlockRead
     requires { ⌜ Shape size d p (length (now words)) × (length (now cs) ≡ 4 ^ d)
         × Range at (2 + fieldBits (formatOf size) + countBits (formatOf size)) end (length (now buf)) ⌝ }
-    ensures { λ r. ⌜ (now (words .exit) ≡ readCode (formatOf size) float exact d p (slice at end (bitsOf (now (buf .entry)))))
+    ensures { λ r. ⌜ (now (words .exit) ≡ readCode (formatOf size) float exact d
+        (planesRead (formatOf size) float exact d p lowest (slice at end (bitsOf (now (buf .entry))))) (slice at end (bitsOf (now (buf .entry)))))
         × (r .padded ≡ (not exact || paddedBlock (formatOf size) float d p (slice at end (bitsOf (now (buf .entry))))))
-        × (r .whole ≡ wholeRead (formatOf size) float exact d p (slice at end (bitsOf (now (buf .entry))))) ⌝ }
+        × (r .whole ≡ wholeRead (formatOf size) float exact d
+        (planesRead (formatOf size) float exact d p lowest (slice at end (bitsOf (now (buf .entry))))) (slice at end (bitsOf (now (buf .entry))))) ⌝ }
 {
     if !float {
         return read_integers(size, exact, d, p, buf, at, end, cs, words);
@@ -241,7 +255,7 @@ pub fn read_block(
     } else {
         BlockRead {
             padded: true,
-            whole: read_lossy_floats(size, d, p, buf, at, end, cs, words),
+            whole: read_lossy_floats(size, d, p, lowest, buf, at, end, cs, words),
         }
     }
 }

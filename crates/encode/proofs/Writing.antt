@@ -1,10 +1,12 @@
 -- The forms of a block, as the writer goes through them.
 use mathlib.Core.Path.{_≡_, refl, sym}
-use mathlib.Core.Bool.{Bool, true, false}
-use mathlib.Core.List.{List, _∷_, map, append-nil}
+use mathlib.Core.Bool.{Bool, true, false, cond}
+use mathlib.Core.List.{List, [], _∷_, map, append-nil}
 use Prim.Native.Nat.{ℕ, suc, _+_, _-_, _*_, _/_, _%_, _≤_}
 use native.Mathlib.Numerals.{add-one}
 use native.Mathlib.Omega.{arith}
+use borrow.Author.Tests.{ne-eqb}
+use lib.Dec.{eqb}
 use lib.Ieee.{Format}
 use Rattle.bits.specs.declared.Cursor.{Cursor}
 use Rattle.bits.specs.Stream.{numberBits}
@@ -16,7 +18,10 @@ use Rattle.floats.specs.Integer.{toInteger}
 use Rattle.float_blocks.specs.Block.{blockExponent, noMagnitude, allZero, allWhole}
 use Rattle.codec.specs.Code.{exactIntegers, exactFloats}
 use Rattle.codec.specs.Depth.{wholeIntegers, wholeWritten}
-use Rattle.codec.specs.Calls.{integersCode, uncutFloats, uncutCode, Formed}
+use Rattle.codec.specs.Lowest.{planesAt, planesCoded}
+use Rattle.codec.specs.Calls.{integersCode, uncutFloats, uncutCode, uncutTo, Formed}
+use Rattle.codec.proofs.Depth.{written-most}
+use Rattle.codec.proofs.Lowest.{planes-at-most}
 
 -- a block of integers, by mode
 integers-uncut : (f : Format) (exact : Bool) (d p : ℕ) (ws : List ℕ) → integersCode f exact d p ws ≡ uncutCode f false exact d p ws
@@ -24,10 +29,15 @@ unfolding uncutCode exactIntegers
 integers-uncut f true d p ws = refl
 integers-uncut f false d p ws = refl
 
-pub no-head : (f : Format) (exact : Bool) (ws : List ℕ) → Formed f false exact ws ws 0 0 true
-unfolding wholeWritten
-no-head f exact ws =
-    record { code = λ d p. sym (integers-uncut f exact d p ws); whole = λ d p width. let e : width - 0 ≡ width = omega arith in rw e; short = omega arith }
+pub no-head : (f : Format) (exact : Bool) (d p lowest : ℕ) (ws : List ℕ) → Formed f false exact d p lowest ws ws 0 0 true p
+unfolding uncutTo wholeWritten
+no-head f exact d p lowest ws =
+    record {
+      code = sym (integers-uncut f exact d p ws);
+      whole = λ width. let e : width - 0 ≡ width = omega arith in rw e;
+      few = omega arith;
+      short = omega arith;
+    }
 
 -- a 1 and bits 1 0 in front of e, as one number
 one-first : (k e : ℕ) → numberBits (k + 1) (2 * e + 1) ≡ true ∷ numberBits k e
@@ -45,44 +55,73 @@ zero-second k e =
     let last : 2 * e / 2 ≡ e = omega arith in
     rw (two, odd, rest, even, last)
 
-module _ (f : Format) (ws : List ℕ) where
-  pub exact-zero : allZero ws ≡ true → Formed f true true ws ws 0 1 false
-  unfolding uncutCode exactFloats wholeWritten
-  exact-zero h = record { code = λ d p. rw h; whole = λ d p width. rw h; short = omega arith }
+module _ (f : Format) (d p lowest : ℕ) (ws : List ℕ) where
+  pub exact-zero : allZero ws ≡ true → Formed f true true d p lowest ws ws 0 1 false 0
+  unfolding uncutTo uncutCode exactFloats wholeWritten
+  exact-zero h = record { code = rw h; whole = λ width. rw h; few = omega arith; short = omega arith }
 
-  pub lossy-zero : noMagnitude f ws ≡ true → Formed f true false ws ws 0 1 false
-  unfolding uncutCode uncutFloats wholeWritten
-  lossy-zero h = record { code = λ d p. rw h; whole = λ d p width. rw h; short = omega arith }
+  -- a single 0, for a block that is zero and for one that no planes are left of
+  pub lossy-zero : noMagnitude f ws ≡ true → Formed f true false d p lowest ws ws 0 1 false 0
+  unfolding uncutTo uncutCode uncutFloats wholeWritten
+  lossy-zero h = record { code = rw h (either (eqb (planesCoded f true false d p lowest ws) 0)); whole = λ width. rw h; few = omega arith; short = omega arith }
+    where
+      either : (b : Bool) → _≡_ {A = List Bool} (cond b (false ∷ []) (false ∷ [])) (false ∷ [])
+      either true = refl
+      either false = refl
 
-  module _ (e : ℕ) (own : e ≡ blockExponent f ws) {k : ℕ} (field : k ≡ fieldBits f) (few : k ≤ 11) {ws′ : List ℕ} where
+  pub lossy-none : planesCoded f true false d p lowest ws ≡ 0 → Formed f true false d p lowest ws ws 0 1 false 0
+  unfolding uncutTo
+  lossy-none h =
+      record {
+        code = rw h;
+        whole = λ width. omega (arith, h, written-most f true d (planesCoded f true false d p lowest ws) false width ws);
+        few = omega arith;
+        short = omega arith;
+      }
+
+  module _ (e : ℕ) (own : e ≡ blockExponent f ws) {b : ℕ} (field : b ≡ fieldBits f) (few : b ≤ 11) {ws′ : List ℕ} where
     -- a 1, then e and the integers
-    pub lossy-some : noMagnitude f ws ≡ false → ws′ ≡ map (toInteger f e) ws → Formed f true false ws ws′ (2 * e + 1) (k + 1) true
-    unfolding uncutCode uncutFloats wholeWritten
-    lossy-some h made =
-        let head : k + 1 ≡ 1 + fieldBits f = omega (arith, field) in
-        record { code = λ d p. rw (h, ← own, made, one-first k e, field); whole = λ d p width. rw (h, ← own, made, head); short = omega arith }
+    pub lossy-some : {k : ℕ} → k ≡ planesAt f d p lowest e → (k ≡ 0 → ⊥) → noMagnitude f ws ≡ false → ws′ ≡ map (toInteger f e) ws
+        → Formed f true false d p lowest ws ws′ (2 * e + 1) (b + 1) true k
+    unfolding uncutTo uncutCode uncutFloats wholeWritten
+    lossy-some {k} planes some h made =
+        let head : b + 1 ≡ 1 + fieldBits f = omega (arith, field) in
+        record {
+          code = rw (← own, ← planes, ne-eqb k 0 some, h, made, one-first b e, field);
+          whole = λ width. rw (← own, ← planes, h, made, head);
+          few = rw planes (planes-at-most f d p lowest e);
+          short = omega arith;
+        }
 
     -- 1 0, then e and the integers
-    pub exact-whole : allZero ws ≡ false → allWhole f e ws ≡ true → ws′ ≡ map (toInteger f e) ws → Formed f true true ws ws′ (4 * e + 1) (k + 2) true
-    unfolding uncutCode exactFloats exactIntegers wholeWritten
+    pub exact-whole : allZero ws ≡ false → allWhole f e ws ≡ true → ws′ ≡ map (toInteger f e) ws
+        → Formed f true true d p lowest ws ws′ (4 * e + 1) (b + 2) true 0
+    unfolding uncutTo uncutCode exactFloats exactIntegers wholeWritten
     exact-whole h whole made =
-        record { code = λ d p. rw (h, ← own, whole, made, zero-second k e, field); whole = λ d p width. rw (h, ← own, whole, made); short = omega arith }
+        record {
+          code = rw (h, ← own, whole, made, zero-second b e, field);
+          whole = λ width. rw (h, ← own, whole, made);
+          few = omega arith;
+          short = omega arith;
+        }
 
   -- 1 1, then the flips
   pub exact-raw : (e : ℕ) → e ≡ blockExponent f ws → {ws′ : List ℕ} → allZero ws ≡ false → allWhole f e ws ≡ false → ws′ ≡ map (flip (wordSize f)) ws
-      → Formed f true true ws ws′ 3 2 true
-  unfolding uncutCode exactFloats exactIntegers wholeWritten
+      → Formed f true true d p lowest ws ws′ 3 2 true 0
+  unfolding uncutTo uncutCode exactFloats exactIntegers wholeWritten
   exact-raw e own h whole made =
-      record { code = λ d p. rw (h, ← own, whole, made); whole = λ d p width. rw (h, ← own, whole, made); short = omega arith }
+      record { code = rw (h, ← own, whole, made); whole = λ width. rw (h, ← own, whole, made); few = omega arith; short = omega arith }
 
 -- the form's bits, and what follows them, and how many planes are whole
-module _ {f : Format} {float exact planes : Bool} {ws ws′ : List ℕ} {head bits : ℕ} {before mid : List ℕ} {limit : ℕ} {out out₁ : Cursor}
-    (d p width : ℕ) (form : Formed f float exact ws ws′ head bits planes) where
+module _ {f : Format} {float exact planes : Bool} {d p lowest k : ℕ} {ws ws′ : List ℕ} {head bits : ℕ} {before mid : List ℕ} {limit : ℕ} {out out₁ : Cursor}
+    (width : ℕ) (form : Formed f float exact d p lowest ws ws′ head bits planes k) where
   pub with-planes : {after : List ℕ} {out₂ : Cursor} {whole : ℕ} → planes ≡ true → Written before mid out limit (numberBits bits head) out₁
-      → Written mid after out₁ limit (integersCode f exact d p ws′) out₂ × (whole ≡ wholeIntegers f exact d p (width - bits) ws′)
-      → Written before after out limit (uncutCode f float exact d p ws) out₂ × (whole ≡ wholeWritten f float exact d p width ws)
-  with-planes e r₁ r₂ = (rw (form .code d p, e) (written-append r₁ (r₂ .0)), rw (form .whole d p width, e) (r₂ .1))
+      → Written mid after out₁ limit (integersCode f exact d k ws′) out₂ × (whole ≡ wholeIntegers f exact d k (width - bits) ws′)
+      → Written before after out limit (uncutTo f float exact d p lowest ws) out₂
+      × (whole ≡ wholeWritten f float exact d (planesCoded f float exact d p lowest ws) width ws)
+  with-planes e r₁ r₂ = (rw (form .code, e) (written-append r₁ (r₂ .0)), rw (form .whole width, e) (r₂ .1))
 
   pub without-planes : planes ≡ false → Written before mid out limit (numberBits bits head) out₁
-      → Written before mid out limit (uncutCode f float exact d p ws) out₁ × (0 ≡ wholeWritten f float exact d p width ws)
-  without-planes e r₁ = (rw (form .code d p, e, append-nil (numberBits bits head)) r₁, rw (form .whole d p width, e))
+      → Written before mid out limit (uncutTo f float exact d p lowest ws) out₁
+      × (0 ≡ wholeWritten f float exact d (planesCoded f float exact d p lowest ws) width ws)
+  without-planes e r₁ = (rw (form .code, e, append-nil (numberBits bits head)) r₁, rw (form .whole width, e))

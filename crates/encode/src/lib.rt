@@ -2,7 +2,7 @@
 // the width less the head, and not against the room below the limit.
 ghost use mathlib.Core.Path.{_≡_};
 ghost use mathlib.Core.Bool.{true, false};
-ghost use Prim.Native.Nat.{_*_, _^_, _≤_, _<_};
+ghost use Prim.Native.Nat.{ℕ, _*_, _^_, _≤_, _<_};
 ghost use lib.ListN.{length};
 ghost use Rattle.bits.specs.Calls.{Written};
 ghost use Rattle.words.specs.Calls.{Size};
@@ -10,12 +10,14 @@ ghost use Rattle.floats.specs.Calls.{formatOf};
 ghost use Rattle.float_blocks.specs.Block.{anySpecial};
 ghost use Rattle.codec.specs.Head.{planesNeeded, exactPlanes};
 ghost use Rattle.codec.specs.Depth.{wholeOf, wholeIntegers, wholeWritten};
-ghost use Rattle.codec.specs.Calls.{Shape, coefficientsCode, integersCode, uncutCode, Formed};
+ghost use Rattle.codec.specs.Lowest.{planesCoded};
+ghost use Rattle.codec.specs.Calls.{Shape, coefficientsCode, integersCode, uncutTo, Formed};
 use bits::Cursor;
 use codec::change::Change;
 use codec::change::change_all;
 use codec::head::count_bits;
 use codec::head::field_bits;
+use codec::head::planes_at;
 use codec::head::planes_needed;
 use plane_writer::Coded;
 
@@ -81,45 +83,59 @@ fn put_integers(
     put_coefficients(size, exact, p, cs, buf, out, limit, budget)
 }
 
-// What stands in front of a block's planes, as a number of so many bits, and whether planes follow.
+// What stands in front of a block's planes, as a number of so many bits, whether planes follow, and how many in lossy mode.
 struct Form {
     pub head: u32,
     pub bits: usize,
     pub planes: bool,
+    pub p: u32,
 }
 
-// The form of a block of finite float patterns in lossy mode; the words become its integers.
-fn form_lossy_floats(size: u32, words: &mut [u64]) -> Form
+// The form of a block of finite float patterns in lossy mode, with as many of p planes as the lowest exponent leaves; the words become its integers.
+fn form_lossy_floats(size: u32, d: u32, p: u32, lowest: u32, words: &mut [u64]) -> Form
     requires { ⌜ Size size × (anySpecial (formatOf size) (now words) ≡ false) ⌝ }
-    ensures { λ r. ⌜ Formed (formatOf size) true false (now (words .entry)) (now (words .exit)) (r .head) (r .bits) (r .planes) ⌝ }
+    ensures { λ r. ⌜ Formed (formatOf size) true false d p lowest (now (words .entry)) (now (words .exit)) (r .head) (r .bits) (r .planes) (r .p) ⌝ }
 {
     if float_blocks::no_magnitude(size, words) {
         return Form {
             head: 0,
             bits: 1,
             planes: false,
+            p: 0,
         };
     }
     let e = float_blocks::block_exponent(size, words);
+    let k = planes_at(size, d, p, lowest, e);
+    if k == 0 {
+        return Form {
+            head: 0,
+            bits: 1,
+            planes: false,
+            p: 0,
+        };
+    }
     change_all(size, Change::ToInteger(e), words);
     // A 1, then e.
     Form {
         head: 2 * e + 1,
         bits: field_bits(size) + 1,
         planes: true,
+        p: k,
     }
 }
 
 // The form of a block of float patterns in exact mode; the words become its integers.
 fn form_exact_floats(size: u32, words: &mut [u64]) -> Form
     requires { ⌜ Size size ⌝ }
-    ensures { λ r. ⌜ Formed (formatOf size) true true (now (words .entry)) (now (words .exit)) (r .head) (r .bits) (r .planes) ⌝ }
+    ensures { λ r. ⌜ ((d p lowest : ℕ)
+        → Formed (formatOf size) true true d p lowest (now (words .entry)) (now (words .exit)) (r .head) (r .bits) (r .planes) (r .p)) ⌝ }
 {
     if float_blocks::all_zero(words) {
         return Form {
             head: 0,
             bits: 1,
             planes: false,
+            p: 0,
         };
     }
     let e = float_blocks::block_exponent(size, words);
@@ -130,6 +146,7 @@ fn form_exact_floats(size: u32, words: &mut [u64]) -> Form
             head: 4 * e + 1,
             bits: field_bits(size) + 2,
             planes: true,
+            p: 0,
         };
     }
     change_all(size, Change::Flip, words);
@@ -138,36 +155,47 @@ fn form_exact_floats(size: u32, words: &mut [u64]) -> Form
         head: 3,
         bits: 2,
         planes: true,
+        p: 0,
     }
 }
 
 // The form of a block, by kind and mode; the words become its integers.
-fn form_of(size: u32, float: bool, exact: bool, words: &mut [u64]) -> Form
+fn form_of(
+    size: u32,
+    float: bool,
+    exact: bool,
+    d: u32,
+    p: u32,
+    lowest: u32,
+    words: &mut [u64],
+) -> Form
     requires { ⌜ Size size × (float ≡ true → exact ≡ false → anySpecial (formatOf size) (now words) ≡ false) ⌝ }
-    ensures { λ r. ⌜ Formed (formatOf size) float exact (now (words .entry)) (now (words .exit)) (r .head) (r .bits) (r .planes) ⌝ }
+    ensures { λ r. ⌜ Formed (formatOf size) float exact d p lowest (now (words .entry)) (now (words .exit)) (r .head) (r .bits) (r .planes) (r .p) ⌝ }
 {
     if !float {
         return Form {
             head: 0,
             bits: 0,
             planes: true,
+            p,
         };
     }
     if exact {
         form_exact_floats(size, words)
     } else {
-        form_lossy_floats(size, words)
+        form_lossy_floats(size, d, p, lowest, words)
     }
 }
 
-// The code of a block of 4^d words, by kind and mode, with p planes if it is lossy, for a slot of so many bits; the words are used up. A lossy block of
-// floats has no exponent field of 255.
+// The code of a block of 4^d words, by kind and mode, with p planes if it is lossy, of floats those that the lowest exponent leaves, for a slot of so
+// many bits; the words are used up. A lossy block of floats has no exponent field of 255.
 pub fn put_block(
     size: u32,
     float: bool,
     exact: bool,
     d: u32,
     p: u32,
+    lowest: u32,
     words: &mut [u64],
     cs: &mut [u64],
     buf: &mut [u8],
@@ -179,14 +207,16 @@ pub fn put_block(
         × (float ≡ true → exact ≡ false → anySpecial (formatOf size) (now words) ≡ false)
         × (limit ≤ 8 * length (now buf)) × (out .at < 2 ^ 28) × (out .writes ≤ out .at) × (13 ≤ width) ⌝ }
     ensures { λ r. ⌜ Written (now (buf .entry)) (now (buf .exit)) out limit
-        (uncutCode (formatOf size) float exact d p (now (words .entry))) (r .out)
-        × (r .whole ≡ wholeWritten (formatOf size) float exact d p width (now (words .entry))) ⌝ }
+        (uncutTo (formatOf size) float exact d p lowest (now (words .entry))) (r .out)
+        × (r .whole ≡ wholeWritten (formatOf size) float exact d (planesCoded (formatOf size) float exact d p lowest (now (words .entry))) width
+        (now (words .entry))) ⌝ }
 {
-    let f = form_of(size, float, exact, words);
+    let f = form_of(size, float, exact, d, p, lowest, words);
     let next = bits::put_number(buf, out, limit, f.head, f.bits);
     if f.planes {
+        let k = f.p;
         let budget = width - f.bits;
-        put_integers(size, exact, d, p, words, cs, buf, next, limit, budget)
+        put_integers(size, exact, d, k, words, cs, buf, next, limit, budget)
     } else {
         Coded {
             out: next,

@@ -43,7 +43,7 @@ returns c =
     let bit = branch .before in
     let a = entry bit .args in
     let bs = bitsOf (a .buf .now) in
-    lossy-some (formatOf (a .size)) (a .d) (a .p) bs (a .at) (a .end) _ (fits bit) (bit .get .ensures) (omega arith) (branch .if1 .taken)
+    lossy-some (formatOf (a .size)) (a .d) (a .p) bs (a .at) (a .end) _ (fits bit) (bit .get .ensures) (a .lowest) (omega arith) (branch .if1 .taken)
     (read .read-scaled .ensures .0)
     (read .read-scaled .ensures .1)
 
@@ -58,7 +58,7 @@ returns-2 c =
     let s = entry bit in
     let a = s .args in
     let bs = bitsOf (a .buf .now) in
-    lossy-zero (formatOf (a .size)) (a .d) (a .p) bs (a .at) (a .end) _ (fits bit) (bit .get .ensures) (omega arith) (branch .if1 .left)
+    lossy-zero (formatOf (a .size)) (a .d) (a .p) bs (a .at) (a .end) _ (fits bit) (bit .get .ensures) (a .lowest) (omega arith) (branch .if1 .left)
     (cleared .clear .ensures ∙ ap (λ (n : ℕ). replicate n 0) (s .pre .0 .long))
 
 pub read-lossy-floats-spec : {M : Type 1} → statement M

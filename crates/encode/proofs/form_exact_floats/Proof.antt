@@ -40,7 +40,7 @@ same-length c = search needs
 returns : tie.Need-returns
 returns c =
     let a = c .before .before .before .before .args in
-    exact-zero (formatOf (a .size)) (a .words .now) (sym (c .before .all-zero .ensures) ∙ c .if1 .taken)
+    λ d p lowest. exact-zero (formatOf (a .size)) d p lowest (a .words .now) (sym (c .before .all-zero .ensures) ∙ c .if1 .taken)
 
 block-exponent-requires : tie.Need-block-exponent-requires
 block-exponent-requires c κs = search needs
@@ -76,7 +76,7 @@ returns-2 c =
     let branch = made .before .before in
     let e = branch .before .before .before in
     let a = entry e .args in
-    exact-whole (formatOf (a .size)) (a .words .now) (e .block-exponent .result) (e .block-exponent .ensures)
+    λ d p lowest. exact-whole (formatOf (a .size)) d p lowest (a .words .now) (e .block-exponent .result) (e .block-exponent .ensures)
     (c .field-bits .ensures .0) (c .field-bits .ensures .1) (some e) (whole branch) (made .change-all .ensures)
 
 change-all-requires-2 : tie.Need-change-all-requires-2
@@ -91,7 +91,7 @@ returns-3 c =
     let branch = made .before .before in
     let e = branch .before .before .before in
     let a = entry e .args in
-    exact-raw (formatOf (a .size)) (a .words .now) (e .block-exponent .result) (e .block-exponent .ensures)
+    λ d p lowest. exact-raw (formatOf (a .size)) d p lowest (a .words .now) (e .block-exponent .result) (e .block-exponent .ensures)
     (some e) (sym (branch .before .all-whole .ensures) ∙ branch .if2 .left) (made .change-all2 .ensures)
 
 pub form-exact-floats-spec : {M : Type 1} → statement M

@@ -9,7 +9,7 @@ use Rattle.encode.proofs.form_of.Tie as tie
 returns : tie.Need-returns
 returns c =
     let a = c .before .before .args in
-    rw (not-true (a .float) (c .if1 .taken)) (no-head (formatOf (a .size)) (a .exact) (a .words .now))
+    rw (not-true (a .float) (c .if1 .taken)) (no-head (formatOf (a .size)) (a .exact) (a .d) (a .p) (a .lowest) (a .words .now))
 
 form-exact-floats-requires : tie.Need-form-exact-floats-requires
 form-exact-floats-requires c κs = search needs
@@ -27,7 +27,7 @@ returns-2 : tie.Need-returns-2
 returns-2 c =
     let branch = c .before .before .before .before in
     let a = branch .before .before .before .args in
-    rw (not-false (a .float) (branch .before .if1 .left), branch .if2 .taken) (c .before .before .form-exact-floats .ensures)
+    rw (not-false (a .float) (branch .before .if1 .left), branch .if2 .taken) (c .before .before .form-exact-floats .ensures (a .d) (a .p) (a .lowest))
 
 same-length-2 : tie.Need-same-length-2
 same-length-2 c = search needs

@@ -1,4 +1,5 @@
 -- The form's bits, then the planes, if there are any. Assumes nothing.
+use native.Mathlib.Nat.{le-trans}
 use native.Mathlib.Omega.{arith}
 use Rattle.bits.proofs.NumberLaws.{length-numberBits}
 use Rattle.encode.proofs.Writing.{with-planes, without-planes}
@@ -19,9 +20,17 @@ put-integers-requires : tie.Need-put-integers-requires
 put-integers-requires c κs =
     let number = c .before .before .before .before .before .before .before in
     let made = number .before .before .before .before in
+    let s = made .before .before .before .before .before in
     let bits = length-numberBits (made .form-of .result .bits) (made .form-of .result .head) in
     let w = number .put-number .ensures in
-    (search needs, search needs, search needs, omega (arith, w .moved, bits, made .form-of .ensures .short), omega (arith, w .moved, w .few))
+    let shape = s .pre .0 in
+    let few = le-trans (made .form-of .ensures .few) (shape .planes) in (
+      record { sized = shape .sized; dimension = shape .dimension; long = search needs; planes = few },
+      search needs,
+      search needs,
+      omega (arith, w .moved, bits, made .form-of .ensures .short),
+      omega (arith, w .moved, w .few),
+    )
 
 same-length : tie.Need-same-length
 same-length c = search needs
@@ -39,7 +48,7 @@ returns c =
     let number = branch .before .before .before in
     let made = number .before .before .before .before in
     let a = made .before .before .before .before .before .args in
-    with-planes (a .d) (a .p) (a .width) (made .form-of .ensures) (branch .if1 .taken) (number .put-number .ensures) (put .put-integers .ensures)
+    with-planes (a .width) (made .form-of .ensures) (branch .if1 .taken) (number .put-number .ensures) (put .put-integers .ensures)
 
 same-length-4 : tie.Need-same-length-4
 same-length-4 c = search needs
@@ -52,7 +61,7 @@ returns-2 c =
     let number = c .before .before .before in
     let made = number .before .before .before .before in
     let a = made .before .before .before .before .before .args in
-    without-planes (a .d) (a .p) (a .width) (made .form-of .ensures) (c .if1 .left) (number .put-number .ensures)
+    without-planes (a .width) (made .form-of .ensures) (c .if1 .left) (number .put-number .ensures)
 
 pub put-block-spec : {M : Type 1} → statement M
 put-block-spec =
