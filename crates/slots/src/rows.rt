@@ -22,7 +22,7 @@ pub fn special(p: Params, words: &[u32]) -> bool
     }
 }
 
-// Rows 1 to 5, 8 and 9. Row 9, which looks at every word, comes after the others: a buffer that is not N long is not walked through.
+// Rows 1 to 5, 13, 8 and 9. Row 9, which looks at every word, comes after the others: a buffer that is not N long is not walked through.
 pub fn bit_row(p: Params, words: &[u32]) -> u32
     ensures { λ r. ⌜ r ≡ first (bitRows p (now (words .entry))) ⌝ }
 {

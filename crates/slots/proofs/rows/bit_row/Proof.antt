@@ -1,4 +1,4 @@
--- Rows 1 to 5 first, then row 8, then row 9. Assumes nothing.
+-- The rows of the parameters first, then row 8, then row 9. Assumes nothing.
 use Rattle.params.proofs.RowLists.{first-some, first-zero}
 use Rattle.params.proofs.RowLaws.{good}
 use Rattle.params.specs.Rows.{parameterRows, row8}
