@@ -29,6 +29,7 @@ pub fn start() -> Partial
         mode: 0,
         planes: 0,
         width: 0,
+        lowest: 0,
     };
     Partial {
         started: false,

@@ -7,16 +7,25 @@ ghost use Rattle.fpc_stream.specs.Outcome.{fpcWriteOutcome, fpcReadOutcome};
 ghost use Rattle.fpc.specs.Calls.{outcome};
 ghost use Rattle.windlassow.specs.Calls.{params};
 
-// The record of the parameters.
-fn params_of(kind: u32, dimension: u32, mode: u32, planes: u32, width: u32) -> params::Params
-    ensures { λ r. ⌜ r ≡ params kind dimension mode planes width ⌝ }
+// The record of the parameters. The host's lowest exponent is an i32, which arrives as the u32 of the same bits.
+fn params_of(
+    kind: u32,
+    dimension: u32,
+    mode: u32,
+    planes: u32,
+    width: u32,
+    lowest: u32,
+) -> params::Params
+    ensures { λ r. ⌜ r ≡ params kind dimension mode planes width lowest ⌝ }
 {
+    let raised = std::num::wrapping_add_u32(lowest, params::LOWEST_OFFSET);
     params::Params {
         kind,
         dimension,
         mode,
         planes,
         width,
+        lowest: raised,
     }
 }
 
@@ -28,15 +37,16 @@ pub extern "C" fn windlassow_store(
     mode: u32,
     planes: u32,
     width: u32,
+    lowest: u32,
     archive: &mut [u8],
     slot: usize,
     words: &[u32],
 ) -> slots::Reply
     ensures { λ r. ⌜
         stored r (now (archive .exit))
-        ≡ storeOutcome (params kind dimension mode planes width) (now (archive .entry)) slot (now (words .entry)) ⌝ }
+        ≡ storeOutcome (params kind dimension mode planes width lowest) (now (archive .entry)) slot (now (words .entry)) ⌝ }
 {
-    let p = params_of(kind, dimension, mode, planes, width);
+    let p = params_of(kind, dimension, mode, planes, width, lowest);
     slots::store(p, archive, slot, words)
 }
 
@@ -48,16 +58,17 @@ pub extern "C" fn windlassow_read(
     mode: u32,
     planes: u32,
     width: u32,
+    lowest: u32,
     archive: &[u8],
     slot: usize,
     words: &mut [u32],
 ) -> slots::Reply
     ensures { λ r. ⌜
         fetched r (now (words .exit))
-        ≡ readOutcome (params kind dimension mode planes width) (length (now (archive .entry))) slot
-        (slotOf (params kind dimension mode planes width) (now (archive .entry)) slot) (now (words .entry)) ⌝ }
+        ≡ readOutcome (params kind dimension mode planes width lowest) (length (now (archive .entry))) slot
+        (slotOf (params kind dimension mode planes width lowest) (now (archive .entry)) slot) (now (words .entry)) ⌝ }
 {
-    let p = params_of(kind, dimension, mode, planes, width);
+    let p = params_of(kind, dimension, mode, planes, width, lowest);
     slots::read(p, archive, slot, words)
 }
 
@@ -69,11 +80,12 @@ pub extern "C" fn windlassow_slot_count(
     mode: u32,
     planes: u32,
     width: u32,
+    lowest: u32,
     archive: &[u8],
 ) -> slots::Reply
-    ensures { λ r. ⌜ replied r ≡ countOutcome (params kind dimension mode planes width) (length (now (archive .entry))) ⌝ }
+    ensures { λ r. ⌜ replied r ≡ countOutcome (params kind dimension mode planes width lowest) (length (now (archive .entry))) ⌝ }
 {
-    let p = params_of(kind, dimension, mode, planes, width);
+    let p = params_of(kind, dimension, mode, planes, width, lowest);
     slots::slot_count(p, archive)
 }
 
@@ -85,11 +97,12 @@ pub extern "C" fn windlassow_bit_count(
     mode: u32,
     planes: u32,
     width: u32,
+    lowest: u32,
     words: &[u32],
 ) -> slots::Reply
-    ensures { λ r. ⌜ replied r ≡ bitOutcome (params kind dimension mode planes width) (now (words .entry)) ⌝ }
+    ensures { λ r. ⌜ replied r ≡ bitOutcome (params kind dimension mode planes width lowest) (now (words .entry)) ⌝ }
 {
-    let p = params_of(kind, dimension, mode, planes, width);
+    let p = params_of(kind, dimension, mode, planes, width, lowest);
     slots::bit_count(p, words)
 }
 
