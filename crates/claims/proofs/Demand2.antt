@@ -43,7 +43,7 @@ module _ (p : Params) (archive : List ℕ) (k : ℕ) (ws : List ℕ) (e : exact 
   unfolding readOutcome
   comes-back before long =
       let s = slot-after p archive k ws (storable p archive k ws done) (fits p archive k ws done) in
-      let depth = depth-back p (at-place p archive k ws done .good .dimension) ws ∙ sym (depth-stored p archive k ws done) in
+      let depth = depth-back p (at-place p archive k ws done .good .dimension) ws (storable p archive k ws done .1) ∙ sym (depth-stored p archive k ws done) in
       rw (s, long, rows, words, depth) refl
 
 -- an exact read answers 11 exactly where no block's padded code equals the slot

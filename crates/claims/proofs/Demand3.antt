@@ -18,7 +18,7 @@ use Rattle.params.specs.Width.{float, exact, wordCount, widthOf}
 use Rattle.params.specs.Rows.{first, parameterRows}
 use Rattle.slot_code.specs.Rules.{IsBlock, codeOf}
 use Rattle.order.proofs.Orders.{in-order}
-use Rattle.slot_code.proofs.Exact.{exact-bound}
+use Rattle.slot_code.proofs.Exact.{code-exact, exact-bound}
 use Rattle.slots.specs.Outcome.{bitOutcome, storeOutcome}
 use Rattle.claims.specs.Demand3.{RefusesAsTooLong, PlanesBound, TakesIntegers, TakesFloats, StoreCount, BitCount, ListedCount, Demand3}
 use Rattle.lines.specs.Line.{blockWords}
@@ -52,8 +52,8 @@ module _ (d : ℕ) (good : Dimension d) where
 
   module _ (p : Params) (dim : p .dimension ≡ d) (e : exact p ≡ true) (k : float p ≡ false) where
     bits : length (codeOf p block) ≡ 33 * wordCount p + 4
-    unfolding codeOf definedCode
-    bits = rw (k, e, dim) (longest-code binary32 d (in-order d good) ∙ omega (arith, four-some d))
+    unfolding definedCode
+    bits = rw (code-exact p e block, k, dim) (longest-code binary32 d (in-order d good) ∙ omega (arith, four-some d))
 
     refuses : widthOf p ≡ 33 * wordCount p + 3 → RefusesAsTooLong p block (33 * wordCount p + 4)
     refuses wide = rw bits at (refuses-longer p block e (omega (arith, bits)))

@@ -36,7 +36,7 @@ lossy-written p archive k ws before e done long =
     let s = slot-after p archive k ws (storable p archive k ws done) (fits p archive k ws done) in
     let none : first (readRows p (length archive) k slot (length ws)) ≡ 0 =
     read-first p (length archive) k (length ws) slot (parts p archive k ws done .0) ∙ rw e in
-    let depth = depth-back p (at-place p archive k ws done .good .dimension) ws ∙ sym (depth-stored p archive k ws done) in
+    let depth = depth-back p (at-place p archive k ws done .good .dimension) ws (storable p archive k ws done .1) ∙ sym (depth-stored p archive k ws done) in
     rw (s, long, none) (refl, depth)
 
 read-as-written : ReadAsWritten
@@ -58,7 +58,7 @@ exact-read-planes p size k slot before e done =
     let place = first-both (placeRows p size k (length before)) (row11 p slot ∷ []) refl done in
     let good = placed p size k (length before) (place .0) .good in
     let same = same-true (padded (widthOf p) (codeOf p (wordsOf p slot))) slot (not-false _ (rw e at (none (row11 p slot ∷ []) refl (place .1) .0))) in
-    rw done (ap (depthIn p) (sym same) ∙ depth-back p (good .dimension) (wordsOf p slot))
+    rw done (ap (depthIn p) (sym same) ∙ depth-back p (good .dimension) (wordsOf p slot) (rw e))
 
 bit-count-planes : BitCountPlanes
 unfolding bitOutcome

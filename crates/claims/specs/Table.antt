@@ -14,7 +14,7 @@ use Rattle.blocks.specs.Coefficients.{coefficients}
 use Rattle.rounding.specs.Rounded.{toPattern}
 use Rattle.codec.specs.Code.{definedCode}
 use Rattle.params.specs.declared.Params.{Params}
-use Rattle.slots.specs.Outcome.{Fetched, countOutcome, storeOutcome, readOutcome, slotIn, slotOf}
+use Rattle.slots.specs.Outcome.{Fetched, countOutcome, bitOutcome, storeOutcome, readOutcome, slotIn, slotOf}
 use Rattle.fpc_stream.specs.Stream.{stream}
 use Rattle.fpc_stream.specs.Outcome.{goodTables, zeroed, fpcReadOutcome}
 use Rattle.frames.specs.Listing.{listing}
@@ -33,16 +33,20 @@ floats ws = definedCode binary32 true true 1 32 0 ws
 
 -- parameters of dimension 1 with P = 32 and this W
 abbrev pub exactIntegersAt : ℕ → Params
-exactIntegersAt w = record { kind = 0; dimension = 1; mode = 1; planes = 32; width = w }
+exactIntegersAt w = record { kind = 0; dimension = 1; mode = 1; planes = 32; width = w; lowest = 0 }
 
 abbrev pub exactFloatsAt : ℕ → Params
-exactFloatsAt w = record { kind = 1; dimension = 1; mode = 1; planes = 32; width = w }
+exactFloatsAt w = record { kind = 1; dimension = 1; mode = 1; planes = 32; width = w; lowest = 0 }
 
 abbrev pub lossyIntegersAt : ℕ → Params
-lossyIntegersAt w = record { kind = 0; dimension = 1; mode = 0; planes = 32; width = w }
+lossyIntegersAt w = record { kind = 0; dimension = 1; mode = 0; planes = 32; width = w; lowest = 0 }
+
+-- and with a lowest exponent, raised by 300
+abbrev pub lossyFloatsTo : ℕ → ℕ → Params
+lossyFloatsTo lowest w = record { kind = 1; dimension = 1; mode = 0; planes = 32; width = w; lowest = lowest }
 
 abbrev pub lossyFloatsAt : ℕ → Params
-lossyFloatsAt w = record { kind = 1; dimension = 1; mode = 0; planes = 32; width = w }
+lossyFloatsAt w = lossyFloatsTo 0 w
 
 -- what a read gives after a store into slot 0 of an archive of so many zeros; the buffer holds 9s before
 abbrev pub readBack : Params → ℕ → List ℕ → Fetched
@@ -121,7 +125,7 @@ P12 = (f d room : List ℕ) → goodTables f d ≡ true → fpcReadOutcome f d (
 abbrev pub WidthZero : Type 0
 WidthZero =
     (countOutcome (exactIntegersAt 0) 16 ≡ record { answer = 0; count = 4; planes = 0 })
-    × (countOutcome (record { kind = 0; dimension = 2; mode = 1; planes = 32; width = 0 }) 16 ≡ record { answer = 0; count = 1; planes = 0 })
+    × (countOutcome (record { kind = 0; dimension = 2; mode = 1; planes = 32; width = 0; lowest = 0 }) 16 ≡ record { answer = 0; count = 1; planes = 0 })
 
 -- six bits of code and eleven of padding go between two neighbours of ones, at a width that is no multiple of 8
 abbrev pub BetweenNeighbours : Type 0
@@ -250,21 +254,48 @@ PlanesOfZeros =
     × (storeOutcome (lossyFloatsAt 16) (replicate 2 0) 0 (replicate 4 0) .planes ≡ 0)
     × (storeOutcome (exactFloatsAt 146) (replicate 19 0) 0 (replicate 4 0x8000_0000) .planes ≡ 32)
 
+-- ---- rows of our own: a lowest exponent
+
+-- four times 1.0, so m = 1: q = 4 leaves 1 - 4 + 4 planes, of which the code is one 0 after the head; q = 5 leaves none, a single 0; q = 3 leaves two, 0
+-- and 1 1 0
+abbrev pub PlanesLeft : Type 0
+PlanesLeft =
+    let ones : List ℕ = replicate 4 0x3f80_0000 in
+    (storeOutcome (lossyFloatsTo 304 16) (replicate 2 0xff) 0 ones ≡ record { answer = 0; count = 10; planes = 1; bits = bitsOf (0x01 ∷ 0x01 ∷ []) })
+    × (storeOutcome (lossyFloatsTo 305 16) (replicate 2 0xff) 0 ones ≡ record { answer = 0; count = 1; planes = 0; bits = bitsOf (0x00 ∷ 0x00 ∷ []) })
+    × (storeOutcome (lossyFloatsTo 303 16) (replicate 2 0xff) 0 ones ≡ record { answer = 0; count = 13; planes = 2; bits = bitsOf (0x01 ∷ 0x0d ∷ []) })
+
+-- "Reading takes m from e, and a first bit 1 with no planes gives +0s": e = 128, and ones where the planes would be
+abbrev pub NoPlanesRead : Type 0
+NoPlanesRead = readOf (lossyFloatsTo 305 16) (0x01 ∷ 0xff ∷ []) ≡ record { answer = 0; count = 4; planes = 0; words = replicate 4 0 }
+
+-- "13, q outside the range, between 5 and 6, slot and bit count included": q = 301, with a width that row 5 refuses, with an archive that row 6 refuses,
+-- and of a bit count; q = 300 passes
+abbrev pub RowThirteen : Type 0
+RowThirteen =
+    (countOutcome (lossyFloatsTo 601 15) 65537 ≡ record { answer = 5; count = 0; planes = 0 })
+    × (countOutcome (lossyFloatsTo 601 16) 65537 ≡ record { answer = 13; count = 0; planes = 0 })
+    × (countOutcome (lossyFloatsTo 600 16) 65537 ≡ record { answer = 6; count = 0; planes = 0 })
+    × (bitOutcome (lossyFloatsTo 601 16) [] ≡ record { answer = 13; count = 0; planes = 0 })
+
 -- ---- rows of our own: the listing
 
 -- "In: .. Out: ..", the listing that P2 cites
 abbrev pub Listed : Type 0
 Listed =
-    listing (textLine "000101200030" ++ textLine "00000001000000010000000100000001" ++ textLine "aaaaaaab55555556aaaaaaac55555558")
+    listing (textLine "0001012000300000" ++ textLine "00000001000000010000000100000001" ++ textLine "aaaaaaab55555556aaaaaaac55555558")
     ≡ textLine "000027201f0000003000" ++ textLine "0a008800"
 
--- "so is empty input, as a first line"; a bad first line's one answer, for dimension 5; "For an ill-formed line 12 comes before all other rows"
+-- "so is empty input, as a first line"; a bad first line's one answer, for dimension 5, and 13 for digits above 0258; twelve digits are ill-formed; "For an
+-- ill-formed line 12 comes before all other rows"
 abbrev pub ListedBad : Type 0
 ListedBad =
     (listing [] ≡ textLine "0c000000")
-    × (listing (textLine "000501200030" ++ textLine "00000001000000010000000100000001") ≡ textLine "02000000")
+    × (listing (textLine "0005012000300000" ++ textLine "00000001000000010000000100000001") ≡ textLine "02000000")
+    × (listing (textLine "0001012000300259") ≡ textLine "0d000000")
+    × (listing (textLine "000101200030") ≡ textLine "0c000000")
     × (listing
-    (textLine "010100200030" ++ textLine "7F800000000000000000000000000000" ++ textLine "7f800000000000000000000000000000" ++ text "00")
+    (textLine "0101002000300000" ++ textLine "7F800000000000000000000000000000" ++ textLine "7f800000000000000000000000000000" ++ text "00")
     ≡ textLine "0c000000" ++ textLine "09000000" ++ textLine "0c000000")
 
 -- ---- all
@@ -275,7 +306,8 @@ Paper = P1 × P2 × P3 × P4 × P5 × P6 × P7 × P8 × P9 × P10 × P11 × P12
 abbrev pub Ours : Type 0
 Ours =
     WidthZero × BetweenNeighbours × LossyFloats × Answers11 × OrderTold × NegativeHalved × RoundingTie × CutScan × CutScanAtLast × CutVerbatim
-    × FourAsThree × DfcmTaken × TieTakesFcm × OddThree × HashWraps × RampsTold × WidestSlots × PlanesWritten × PlanesFound × PlanesOfZeros × Listed × ListedBad
+    × FourAsThree × DfcmTaken × TieTakesFcm × OddThree × HashWraps × RampsTold × WidestSlots × PlanesWritten × PlanesFound × PlanesOfZeros
+    × PlanesLeft × NoPlanesRead × RowThirteen × Listed × ListedBad
 
 abbrev pub Table : Type 0
 Table = Paper × Ours
