@@ -3,7 +3,8 @@
 //! It was written from the papers alone, apart from the proved one, so that a comparison of the two says
 //! something. It is written for clarity: bits are lists of `bool`, a slot is decoded and coded again to see
 //! whether it is a code, a stream likewise. Every module quotes the sentences that it follows: of document 01, and
-//! of the requests M-100, where it speaks of dimensions 3 and 4, and M-101, where it speaks of planes written whole.
+//! of the requests M-100, where it speaks of dimensions 3 and 4, M-101, where it speaks of planes written whole, and M-103,
+//! where it speaks of the lowest exponent.
 //!
 //! The calls are [`store`], [`read`], [`slot_count`], [`bit_count`], [`fpc_write`], [`fpc_read`] and, for the
 //! listing program, [`listing()`]. The modules hold the pieces.

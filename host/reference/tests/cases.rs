@@ -1,4 +1,4 @@
-//! Document 01's table of cases, P1 to P12, and its worked listing.
+//! Document 01's table of cases, P1 to P12, and its worked listing as document 02 has it.
 
 mod common;
 use common::*;
@@ -122,6 +122,6 @@ fn p12_not_a_stream() {
 
 #[test]
 fn the_worked_listing() {
-    let input = b"000101200030\n00000001000000010000000100000001\naaaaaaab55555556aaaaaaac55555558\n";
+    let input = b"0001012000300000\n00000001000000010000000100000001\naaaaaaab55555556aaaaaaac55555558\n";
     assert_eq!(listing(input), b"000027201f0000003000\n0a008800\n");
 }

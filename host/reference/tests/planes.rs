@@ -208,7 +208,7 @@ fn the_coder_and_its_reader() {
 /// Lossy integers in 32 bits: 1 2 3 4 has 30 planes, 0 0 0 16 has 28; P = 32, W = 0x20. A bad line has none.
 #[test]
 fn the_listing_has_two_digits_after_the_count() {
-    let input = "000100200020\n00000001000000020000000300000004\n00000000000000000000000000000010\n0\n";
+    let input = "0001002000200000\n00000001000000020000000300000004\n00000000000000000000000000000010\n0\n";
     let output = String::from_utf8(listing(input.as_bytes())).unwrap();
     // 29 zeros and 110; 28 zeros and 1011, the lowest bit of a byte first.
     assert_eq!(output, "0000201e00000060\n0000201c000000d0\n0c000000\n");

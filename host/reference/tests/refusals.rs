@@ -4,13 +4,17 @@ mod common;
 use common::*;
 use reference::{Params, Reply, bit_count, read, slot_count, store};
 
-const GOOD: Params = Params { kind: 0, dimension: 1, mode: 1, planes: 32, width: 136 };
+const GOOD: Params = Params { kind: 0, dimension: 1, mode: 1, planes: 32, width: 136, lowest: MIN_LOWEST };
 const NAN: u32 = 0x7FC0_0000;
 
-/// Parameters with row 1, 2, .. 5 broken, and those rows after it.
+/// The rows of the parameters, in their order.
+const ROWS: [u32; 6] = [1, 2, 3, 4, 5, 13];
+
+/// Parameters with a row broken, and those rows after it.
 fn broken_from(row: u32) -> Params {
     let pick = |number: u32, good: u32, bad: u32| if number >= row { bad } else { good };
-    params(pick(1, 0, 2), pick(2, 1, 5), pick(3, 1, 2), pick(4, 32, 33), pick(5, 136, 8_463))
+    let p = params(pick(1, 0, 2), pick(2, 1, 5), pick(3, 1, 2), pick(4, 32, 33), pick(5, 136, 8_463));
+    Params { lowest: MAX_LOWEST + 1, ..p }
 }
 
 fn store_refused(p: &Params, len: usize, slot: usize, words: &[u32], reply: Reply) {
@@ -26,9 +30,9 @@ fn read_refused(p: &Params, archive: &[u8], slot: usize, words_len: usize, reply
 }
 
 #[test]
-fn rows_1_to_5_come_first_in_every_call() {
+fn rows_1_to_5_and_13_come_first_in_every_call() {
     let long = vec![0; 65_537];
-    for row in 1..=5 {
+    for row in ROWS {
         let p = broken_from(row);
         store_refused(&p, 65_537, usize::MAX, &[NAN; 5], refused(row));
         read_refused(&p, &long, usize::MAX, 5, refused(row));
@@ -56,6 +60,44 @@ fn each_parameter_has_its_row() {
         }
         for good in [0, 16, 1_025, 8_462] {
             assert_eq!(bit_count(&Params { width: good, ..p }, &words).answer, 0);
+        }
+        for kind in [INTEGERS, FLOATS] {
+            for bad in [i32::MIN, -301, 301, i32::MAX] {
+                assert_eq!(bit_count(&Params { kind, lowest: bad, ..p }, &words), refused(13));
+            }
+            for good in [-300, -299, 0, 299, 300] {
+                assert_eq!(bit_count(&Params { kind, lowest: good, ..p }, &words).answer, 0);
+            }
+        }
+    }
+}
+
+/// A good call but for the parameters, then such as the rows 6, 7, 8, 9 and 11 would refuse too. The answer is this row.
+fn every_call_refused(p: &Params, row: u32) {
+    let cases: [(usize, usize, &[u32]); 5] =
+        [(17, 0, &[0; 4]), (65_537, 0, &[0; 4]), (17, 1, &[0; 4]), (17, 0, &[0; 5]), (17, 0, &[NAN; 4])];
+    for (len, slot, words) in cases {
+        store_refused(p, len, slot, words, refused(row));
+        read_refused(p, &vec![0xFE; len], slot, words.len(), refused(row));
+        assert_eq!(slot_count(p, &vec![0; len]), refused(row));
+        assert_eq!(bit_count(p, words), refused(row));
+    }
+}
+
+/// Row 13 with each other one: 1 to 5 come before it, all others after it.
+#[test]
+fn row_13_comes_between_5_and_6() {
+    for lowest in [i32::MIN, -301, 301, i32::MAX] {
+        for (kind, mode) in [(INTEGERS, LOSSY), (INTEGERS, EXACT), (FLOATS, LOSSY), (FLOATS, EXACT)] {
+            let bad = Params { kind, mode, lowest, ..GOOD };
+            every_call_refused(&Params { kind: 2, ..bad }, 1);
+            every_call_refused(&Params { dimension: 5, ..bad }, 2);
+            every_call_refused(&Params { mode: 2, ..bad }, 3);
+            every_call_refused(&Params { planes: 33, ..bad }, 4);
+            every_call_refused(&Params { width: 15, ..bad }, 5);
+            every_call_refused(&bad, 13);
+            // A code that is longer than W, row 10.
+            store_refused(&Params { width: 16, ..bad }, 2, 0, &[1, 20, 300, 4000], refused(13));
         }
     }
 }

@@ -1,5 +1,5 @@
-//! What the tests of several packages use: document 01's numbers, guarded buffers, a count of answers, and what
-//! was worked out by hand.
+//! What the tests of several packages use: the papers' numbers, guarded buffers, a count of answers, and what was
+//! worked out by hand.
 
 pub mod by_hand;
 
@@ -14,6 +14,10 @@ pub const FLOATS: u32 = 1;
 pub const LOSSY: u32 = 0;
 /// Mode 1.
 pub const EXACT: u32 = 1;
+/// The lowest q. With it all planes of every block are kept.
+pub const MIN_LOWEST: i32 = -300;
+/// The highest q. With it no plane of any block is kept.
+pub const MAX_LOWEST: i32 = 300;
 
 /// The repository's folder.
 pub fn repository() -> PathBuf {

@@ -3,10 +3,11 @@
 
 pub use random::Random;
 use reference::{FpcReply, Params, Reply};
-pub use testing::{EXACT, FLOATS, INTEGERS, LOSSY, bits, by_hand};
+pub use testing::{EXACT, FLOATS, INTEGERS, LOSSY, MAX_LOWEST, MIN_LOWEST, bits, by_hand};
 
+/// With the q that keeps all planes.
 pub fn params(kind: u32, dimension: u32, mode: u32, planes: u32, width: u32) -> Params {
-    Params { kind, dimension, mode, planes, width }
+    Params { kind, dimension, mode, planes, width, lowest: MIN_LOWEST }
 }
 
 pub fn done(count: u32, planes: u32) -> Reply {

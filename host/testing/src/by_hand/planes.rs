@@ -12,6 +12,8 @@ pub struct Planes {
     pub dimension: u32,
     /// The words.
     pub words: Vec<u32>,
+    /// m, of floats.
+    pub m: Option<i32>,
     /// The bits before the planes, without spaces.
     pub head: &'static str,
     /// The code of each plane, that of plane 31 first.
@@ -24,6 +26,11 @@ impl Planes {
         self.head.to_string() + &self.planes[..planes as usize].concat()
     }
 
+    /// The q with which m - q + 2 x (dimension + 1) is this number. The block is of floats.
+    pub fn lowest(&self, planes: i32) -> i32 {
+        self.m.expect("floats have an exponent") + 2 * (self.dimension as i32 + 1) - planes
+    }
+
     /// How many of the upper planes end within a slot of that width.
     pub fn whole(&self, planes: u32, width: usize) -> u32 {
         (1..=planes).take_while(|&count| self.code(count).len() <= width).count() as u32
@@ -32,7 +39,7 @@ impl Planes {
 
 fn integers(dimension: u32, words: Vec<i32>, planes: &[(usize, &str)]) -> Planes {
     let words = words.into_iter().map(|word| word as u32).collect();
-    Planes { kind: INTEGERS, dimension, words, head: "", planes: repeated(planes) }
+    Planes { kind: INTEGERS, dimension, words, m: None, head: "", planes: repeated(planes) }
 }
 
 /// Each text so many times. There are 32 in all.
@@ -87,18 +94,47 @@ pub fn axes(dimension: u32, axis: usize) -> Planes {
     integers(dimension, words, &[(30, "0"), (1, &scan), (1, &bits)])
 }
 
-/// N times 1.0: e is 128, and the first coefficient is 2^29, in negabinary the bits 30 and 29; the others are 0.
+/// N times 1.0: e is 128, so m is 1, and the first coefficient is 2^29, in negabinary the bits 30 and 29; the others are 0.
 pub fn ones(dimension: u32) -> Planes {
     let words = vec![0x3F80_0000; 4usize.pow(dimension)];
     let planes = repeated(&[(1, "0"), (1, "110"), (1, "10"), (29, "00")]);
-    Planes { kind: FLOATS, dimension, words, head: "100000001", planes }
+    Planes { kind: FLOATS, dimension, words, m: Some(1), head: "100000001", planes }
+}
+
+/// The 128th part of a degree, in which [`degrees`] are counted.
+pub const PART: f32 = 1.0 / 128.0;
+
+/// 2000 2004 2008 2012 parts of a degree along i, the same along the other axes: from 15.625 to 15.71875. They are below 2^4,
+/// so m is 4 and e 131, and the integers are those of [`readings`] times 2^19. So are the coefficients, 2006 and -4. In
+/// negabinary 2^19 x 2006 has the bits 30 (2048 parts), 25 (-64), 24 (32), 23 (-16), 22 (8), 21 (-4) and 20 (2), and 2^19 x -4
+/// has bit 21.
+pub fn degrees(dimension: u32) -> Planes {
+    let words = (0..4u32.pow(dimension)).map(|place| (PART * (2000 + 4 * (place % 4)) as f32).to_bits());
+    let planes = [(1, "0"), (1, "110"), (4, "00"), (4, "10"), (1, "1110"), (1, "100"), (20, "000")];
+    let (words, planes) = (words.collect(), repeated(&planes));
+    Planes { kind: FLOATS, dimension, words, m: Some(4), head: "111000001", planes }
+}
+
+/// What a line along i of [`degrees`] reads as, in parts, if so many planes of it are kept. With 11 the second coefficient is
+/// there: of 2004 -4 0 0 reading makes 1998 2002 2006 2010.
+pub fn degrees_read(planes: u32) -> [f32; 4] {
+    match planes {
+        0 | 1 => [0.0; 4],
+        2..=6 => [2048.0; 4],
+        7 => [1984.0; 4],
+        8 => [2016.0; 4],
+        9 => [2000.0; 4],
+        10 => [2008.0; 4],
+        11 => [1998.0, 2002.0, 2006.0, 2010.0],
+        _ => [2000.0, 2004.0, 2008.0, 2012.0],
+    }
 }
 
 /// All of them.
 pub fn all() -> Vec<Planes> {
     let mut all = vec![small(), all_places()];
     for dimension in 1..=4 {
-        all.extend([readings(dimension), last_place(dimension), ones(dimension)]);
+        all.extend([readings(dimension), last_place(dimension), ones(dimension), degrees(dimension)]);
         all.extend((1..dimension).map(|axis| axes(dimension, axis as usize - 1)));
     }
     all
