@@ -14,7 +14,8 @@
  *   words: the library goes through a plane from one place to the next by calls within calls.
  *
  * Answers
- *   If several refusals apply, the one of the lowest number is given, except that 23 comes before 22.
+ *   If several refusals apply, the one of the lowest number is given, except that 13 comes between 5
+ *   and 6 and 23 before 22.
  *
  *    no.  meaning                                                              count
  *     0   done                                                                 see each call
@@ -23,6 +24,7 @@
  *     3   the mode is not 0 or 1                                               0
  *     4   planes is not from 1 to 32                                           0
  *     5   width is neither 0 nor from 16 to 8,462                              0
+ *    13   lowest is not from -300 to 300                                       0
  *     6   the archive is longer than 65,536 bytes                              0
  *     7   the archive has no slot of that number                               0
  *     8   the buffer of words has not the length of a block                    0
@@ -35,7 +37,7 @@
  *    23   the bytes are not the FPC stream, for tables of this length, of any
  *         run of at most 4,096 doubles                                         0
  *
- *   Answers 1 to 11, 20 and 21 leave every buffer as it was.
+ *   Answers 1 to 11, 13, 20 and 21 leave every buffer as it was.
  *   Answers 22 and 23 leave the output as it was and both tables zero.
  *   Refusals report 0 planes, answer 10 too. The planes of a done call are with each call.
  *
@@ -43,7 +45,8 @@
  *   A slot call also says how many bit planes are whole, from the highest down. Of a lossy record
  *   that is how much of it survived. A plane is whole if all of its code ends within the slot. One
  *   that the slot's end cuts is not counted, even if only zeros are lost. An exact block has all
- *   planes of its code, and floats that are coded as a single 0 have 0. FPC streams have no planes.
+ *   planes of its code, and floats that are coded as a single 0 have 0: those that are all zero, and
+ *   lossy ones of which lowest keeps no plane. FPC streams have no planes.
  *
  * Parameters of the slot calls
  *   kind       0: two's complement integers of 32 bits; 1: IEEE 754 binary32 patterns
@@ -54,12 +57,19 @@
  *   mode       0: lossy, the code is cut at the slot's end; 1: exact, the words come back bit for bit
  *   planes     the number of bit planes kept, 1 to 32; exact mode takes no other notice of it
  *   width      the bits W of a slot; 0 stands for 8 bits a word
+ *   lowest     lossy floats: the lowest exponent q, -300 to 300. Of a block at most
+ *              m - q + 2 x (dimension + 1) planes are kept, where m is the least number from -126 on such
+ *              that all its values are below 2^m in magnitude. Values then come back within 1.5 x 2^q,
+ *              which is measured and not proved (docs/LOSSY.md has the conditions): for 0.05 degrees take
+ *              -5, where that is 0.047. -300 keeps all planes up to `planes`. Other kinds and modes take
+ *              no notice of a good one
  *   An archive is read with the parameters that it was written with.
  *
  * Limits
  *   words of a block, N           4, 16, 64, 256 in dimensions 1, 2, 3, 4
  *   planes, P                     1 to 32
  *   bits of a slot, W             16 to 8,462, or 0 for 8N
+ *   lowest exponent, q            -300 to 300
  *   bytes of an archive           65,536
  *   entries of an FPC table       a power of two from 16 to 1,024, the same for both
  *   doubles of a run              4,096
@@ -106,6 +116,7 @@ enum {
     WINDLASSOW_INVALID_MODE = 3,
     WINDLASSOW_INVALID_PLANES = 4,
     WINDLASSOW_INVALID_WIDTH = 5,
+    WINDLASSOW_INVALID_LOWEST = 13,
     WINDLASSOW_ARCHIVE_TOO_LONG = 6,
     WINDLASSOW_NO_SUCH_SLOT = 7,
     WINDLASSOW_INVALID_BLOCK_LEN = 8,
@@ -123,6 +134,8 @@ enum {
     WINDLASSOW_MAX_PLANES = 32,
     WINDLASSOW_MIN_WIDTH = 16,
     WINDLASSOW_MAX_WIDTH = 8462,
+    WINDLASSOW_MIN_LOWEST = -300,
+    WINDLASSOW_MAX_LOWEST = 300,
     WINDLASSOW_MAX_ARCHIVE_LEN = 65536,
     WINDLASSOW_MIN_TABLE_LEN = 16,
     WINDLASSOW_MAX_TABLE_LEN = 1024,
@@ -145,8 +158,9 @@ enum { WINDLASSOW_STACK_BYTES = 80 * 1024 };
 
 /*
  * What a slot call returns: the answer number, its count and the planes.
- * It grew with this version, from 8 bytes to 12, and the FPC calls now return a struct of their own. So
- * every caller must be compiled again with this header.
+ *
+ * With this version the slot calls take one more argument, lowest, after width. So every caller must be
+ * compiled again with this header.
  */
 struct windlassow_reply {
     uint32_t answer;
@@ -162,40 +176,40 @@ struct windlassow_fpc_reply {
 
 /*
  * Stores a block in a slot. Only that slot's bits change.
- * Answers 0 to 10. Count when done: the bits of the block's code; the rest of the slot is zero.
+ * Answers 0 to 10 and 13. Count when done: the bits of the block's code; the rest of the slot is zero.
  * Planes when done: those written whole within the slot.
  */
 struct windlassow_reply windlassow_store(
-    uint32_t kind, uint32_t dimension, uint32_t mode, uint32_t planes, uint32_t width,
+    uint32_t kind, uint32_t dimension, uint32_t mode, uint32_t planes, uint32_t width, int32_t lowest,
     uint8_t *archive, size_t archive_len, size_t slot,
     const uint32_t *words, size_t words_len);
 
 /*
  * Reads a slot into the words.
- * Answers 0 to 8 and 11. Count when done: the words of a block. Planes when done: those that could
+ * Answers 0 to 8, 11 and 13. Count when done: the words of a block. Planes when done: those that could
  * be read whole, which for a slot that a store has written are the planes of the store. A lossy read
  * takes any slot, and 11 is no detector of damage: see above.
  */
 struct windlassow_reply windlassow_read(
-    uint32_t kind, uint32_t dimension, uint32_t mode, uint32_t planes, uint32_t width,
+    uint32_t kind, uint32_t dimension, uint32_t mode, uint32_t planes, uint32_t width, int32_t lowest,
     const uint8_t *archive, size_t archive_len, size_t slot,
     uint32_t *words, size_t words_len);
 
 /*
  * Counts the slots of an archive.
- * Answers 0 to 6. Count when done: the number of slots. Planes: 0.
+ * Answers 0 to 6 and 13. Count when done: the number of slots. Planes: 0.
  */
 struct windlassow_reply windlassow_slot_count(
-    uint32_t kind, uint32_t dimension, uint32_t mode, uint32_t planes, uint32_t width,
+    uint32_t kind, uint32_t dimension, uint32_t mode, uint32_t planes, uint32_t width, int32_t lowest,
     const uint8_t *archive, size_t archive_len);
 
 /*
  * Counts the bits of a block's code.
- * Answers 0 to 5, 8 and 9. Count when done: the bits; exact mode takes no notice of a good width.
+ * Answers 0 to 5, 8, 9 and 13. Count when done: the bits; exact mode takes no notice of a good width.
  * Planes when done: those that a store would write whole, in exact mode all of the code's.
  */
 struct windlassow_reply windlassow_bit_count(
-    uint32_t kind, uint32_t dimension, uint32_t mode, uint32_t planes, uint32_t width,
+    uint32_t kind, uint32_t dimension, uint32_t mode, uint32_t planes, uint32_t width, int32_t lowest,
     const uint32_t *words, size_t words_len);
 
 /*

@@ -1,4 +1,4 @@
-/* That the named constants of windlassow.h have the numbers of document 01. Nothing is run: it compiles or it does not. */
+/* That the named constants of windlassow.h have the numbers of the papers. Nothing is run: it compiles or it does not. */
 #include "windlassow.h"
 
 /* Compiled with -DWRONG=1 the first assertion must fail. */
@@ -19,6 +19,7 @@ IS(WINDLASSOW_INVALID_DIMENSION, 2);
 IS(WINDLASSOW_INVALID_MODE, 3);
 IS(WINDLASSOW_INVALID_PLANES, 4);
 IS(WINDLASSOW_INVALID_WIDTH, 5);
+IS(WINDLASSOW_INVALID_LOWEST, 13);
 IS(WINDLASSOW_ARCHIVE_TOO_LONG, 6);
 IS(WINDLASSOW_NO_SUCH_SLOT, 7);
 IS(WINDLASSOW_INVALID_BLOCK_LEN, 8);
@@ -33,6 +34,8 @@ IS(WINDLASSOW_NOT_A_STREAM, 23);
 IS(WINDLASSOW_MAX_PLANES, 32);
 IS(WINDLASSOW_MIN_WIDTH, 16);
 IS(WINDLASSOW_MAX_WIDTH, 8462);
+IS(WINDLASSOW_MIN_LOWEST, -300);
+IS(WINDLASSOW_MAX_LOWEST, 300);
 IS(WINDLASSOW_MAX_ARCHIVE_LEN, 65536);
 IS(WINDLASSOW_MIN_TABLE_LEN, 16);
 IS(WINDLASSOW_MAX_TABLE_LEN, 1024);

@@ -1,4 +1,4 @@
-/* The six calls of windlassow.h, on cases of document 01. Compiles as C99 and as C++. From the repository's folder:
+/* The six calls of windlassow.h, on cases of the papers. Compiles as C99 and as C++. From the repository's folder:
  *   rt staticlib windlassow
  *   cc -I include host/c/example.c target/staticlib/libwindlassow.a -o target/example
  */
@@ -7,6 +7,7 @@
 #include "windlassow.h"
 
 enum { KIND = WINDLASSOW_KIND_INTEGERS, MODE = WINDLASSOW_MODE_EXACT, PLANES = WINDLASSOW_MAX_PLANES, WIDTH = 48 };
+enum { LOWEST = WINDLASSOW_MIN_LOWEST };
 
 static void print(const char *call, struct windlassow_reply r) {
     printf("%s: answer %u, count %u, planes %u\n", call, (unsigned)r.answer, (unsigned)r.count, (unsigned)r.planes);
@@ -26,17 +27,17 @@ static void slots(void) {
     const uint32_t ones[4] = {1, 1, 1, 1}, wide[4] = {0xaaaaaaab, 0x55555556, 0xaaaaaaac, 0x55555558};
     uint32_t back[4];
     memset(archive, 0xff, sizeof archive);
-    print("slot_count", windlassow_slot_count(KIND, 1, MODE, PLANES, WIDTH, archive, sizeof archive));
-    print("bit_count", windlassow_bit_count(KIND, 1, MODE, PLANES, WIDTH, wide, 4));
-    print("store", windlassow_store(KIND, 1, MODE, PLANES, WIDTH, archive, sizeof archive, 1, ones, 4));
-    print("store", windlassow_store(KIND, 1, MODE, PLANES, WIDTH, archive, sizeof archive, 0, wide, 4));
+    print("slot_count", windlassow_slot_count(KIND, 1, MODE, PLANES, WIDTH, LOWEST, archive, sizeof archive));
+    print("bit_count", windlassow_bit_count(KIND, 1, MODE, PLANES, WIDTH, LOWEST, wide, 4));
+    print("store", windlassow_store(KIND, 1, MODE, PLANES, WIDTH, LOWEST, archive, sizeof archive, 1, ones, 4));
+    print("store", windlassow_store(KIND, 1, MODE, PLANES, WIDTH, LOWEST, archive, sizeof archive, 0, wide, 4));
     bytes(archive, sizeof archive);
-    print("read", windlassow_read(KIND, 1, MODE, PLANES, WIDTH, archive, sizeof archive, 1, back, 4));
+    print("read", windlassow_read(KIND, 1, MODE, PLANES, WIDTH, LOWEST, archive, sizeof archive, 1, back, 4));
     printf("%d %d %d %d\n", (int)back[0], (int)back[1], (int)back[2], (int)back[3]);
-    struct windlassow_reply ones_only = windlassow_read(KIND, 1, MODE, PLANES, WIDTH, archive, sizeof archive, 0, back, 4);
+    struct windlassow_reply ones_only = windlassow_read(KIND, 1, MODE, PLANES, WIDTH, LOWEST, archive, sizeof archive, 0, back, 4);
     print("read", ones_only);
     if (ones_only.answer == WINDLASSOW_NOT_A_CODE) printf("no block has the code of slot 0\n");
-    print("read", windlassow_read(KIND, 1, MODE, PLANES, WIDTH, archive, 0, 0, back, 4));
+    print("read", windlassow_read(KIND, 1, MODE, PLANES, WIDTH, LOWEST, archive, 0, 0, back, 4));
 }
 
 /* Four readings cut to a slot of 40 bits: the planes say how deep the record got. */
@@ -45,11 +46,26 @@ static void lossy(void) {
     uint8_t archive[NARROW / 8];
     const uint32_t readings[4] = {2000, 2004, 2008, 2012};
     uint32_t back[4];
-    struct windlassow_reply r = windlassow_store(KIND, 1, LOSSY, PLANES, NARROW, archive, sizeof archive, 0, readings, 4);
+    struct windlassow_reply r = windlassow_store(KIND, 1, LOSSY, PLANES, NARROW, LOWEST, archive, sizeof archive, 0, readings, 4);
     print("store", r);
     printf("%u of %d planes are whole\n", (unsigned)r.planes, PLANES);
-    print("read", windlassow_read(KIND, 1, LOSSY, PLANES, NARROW, archive, sizeof archive, 0, back, 4));
+    print("read", windlassow_read(KIND, 1, LOSSY, PLANES, NARROW, LOWEST, archive, sizeof archive, 0, back, 4));
     printf("%d %d %d %d\n", (int)back[0], (int)back[1], (int)back[2], (int)back[3]);
+}
+
+/* Four readings in degrees, with a tolerance of 2^-1, half a degree, and an exponent that is refused. */
+static void tolerance(void) {
+    enum { FLOATS = WINDLASSOW_KIND_FLOATS, LOSSY = WINDLASSOW_MODE_LOSSY, W = WINDLASSOW_EXACT_FLOATS_WIDTH(4) };
+    const float degrees[4] = {15.625f, 15.65625f, 15.6875f, 15.71875f};
+    uint8_t archive[(W + 7) / 8];
+    uint32_t words[4], back[4];
+    float values[4];
+    memcpy(words, degrees, sizeof words);
+    print("store", windlassow_store(FLOATS, 1, LOSSY, PLANES, W, -1, archive, sizeof archive, 0, words, 4));
+    print("read", windlassow_read(FLOATS, 1, LOSSY, PLANES, W, -1, archive, sizeof archive, 0, back, 4));
+    memcpy(values, back, sizeof values);
+    printf("%g %g %g %g\n", values[0], values[1], values[2], values[3]);
+    print("bit_count", windlassow_bit_count(FLOATS, 1, LOSSY, PLANES, W, 301, words, 4));
 }
 
 /* Four cubes in sequence, all of one reading, in a slot that every such block fits. */
@@ -58,10 +74,10 @@ static void cubes(void) {
     static uint8_t archive[(W + 7) / 8];
     static uint32_t words[N], back[N];
     for (size_t place = 0; place < N; place++) words[place] = 215;
-    print("store", windlassow_store(KIND, 4, MODE, PLANES, W, archive, sizeof archive, 0, words, N));
-    print("read", windlassow_read(KIND, 4, MODE, PLANES, W, archive, sizeof archive, 0, back, N));
+    print("store", windlassow_store(KIND, 4, MODE, PLANES, W, LOWEST, archive, sizeof archive, 0, words, N));
+    print("read", windlassow_read(KIND, 4, MODE, PLANES, W, LOWEST, archive, sizeof archive, 0, back, N));
     printf("%d\n", memcmp(words, back, sizeof words) == 0);
-    print("bit_count", windlassow_bit_count(KIND, 5, MODE, PLANES, W, words, N));
+    print("bit_count", windlassow_bit_count(KIND, 5, MODE, PLANES, W, LOWEST, words, N));
 }
 
 static void fpc(void) {
@@ -84,6 +100,7 @@ static void fpc(void) {
 int main(void) {
     slots();
     lossy();
+    tolerance();
     cubes();
     fpc();
     return 0;

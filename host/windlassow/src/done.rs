@@ -29,6 +29,7 @@ pub struct Done {
     /// The bit planes that are whole, from the highest down: of a store those written whole within the slot, of a bit count
     /// those that a store would write so, of a read those that could be read whole. A plane that the end of the slot cuts is
     /// not counted, even if only zeros are lost. In exact mode nothing is cut, and these are all planes of the code, whatever
-    /// the width. Floats that are all zero are coded without planes: 0.
+    /// the width. Floats that are all zero, and lossy ones of which the lowest exponent keeps no plane, are coded without
+    /// planes: 0.
     pub planes: u32,
 }

@@ -30,6 +30,7 @@ unsafe extern "C" {
         mode: u32,
         planes: u32,
         width: u32,
+        lowest: i32,
         archive: *mut u8,
         archive_len: usize,
         slot: usize,
@@ -43,6 +44,7 @@ unsafe extern "C" {
         mode: u32,
         planes: u32,
         width: u32,
+        lowest: i32,
         archive: *const u8,
         archive_len: usize,
         slot: usize,
@@ -56,6 +58,7 @@ unsafe extern "C" {
         mode: u32,
         planes: u32,
         width: u32,
+        lowest: i32,
         archive: *const u8,
         archive_len: usize,
     ) -> Reply;
@@ -66,6 +69,7 @@ unsafe extern "C" {
         mode: u32,
         planes: u32,
         width: u32,
+        lowest: i32,
         words: *const u32,
         words_len: usize,
     ) -> Reply;
@@ -102,6 +106,7 @@ pub fn store(p: Params, archive: &mut [u8], slot: usize, words: &[u32]) -> Reply
             p.mode,
             p.planes,
             p.width,
+            p.lowest,
             archive.as_mut_ptr(),
             archive.len(),
             slot,
@@ -120,6 +125,7 @@ pub fn read(p: Params, archive: &[u8], slot: usize, words: &mut [u32]) -> Reply 
             p.mode,
             p.planes,
             p.width,
+            p.lowest,
             archive.as_ptr(),
             archive.len(),
             slot,
@@ -132,14 +138,32 @@ pub fn read(p: Params, archive: &[u8], slot: usize, words: &mut [u32]) -> Reply 
 pub fn slot_count(p: Params, archive: &[u8]) -> Reply {
     // SAFETY: as above.
     unsafe {
-        windlassow_slot_count(p.kind, p.dimension, p.mode, p.planes, p.width, archive.as_ptr(), archive.len())
+        windlassow_slot_count(
+            p.kind,
+            p.dimension,
+            p.mode,
+            p.planes,
+            p.width,
+            p.lowest,
+            archive.as_ptr(),
+            archive.len(),
+        )
     }
 }
 
 pub fn bit_count(p: Params, words: &[u32]) -> Reply {
     // SAFETY: as above.
     unsafe {
-        windlassow_bit_count(p.kind, p.dimension, p.mode, p.planes, p.width, words.as_ptr(), words.len())
+        windlassow_bit_count(
+            p.kind,
+            p.dimension,
+            p.mode,
+            p.planes,
+            p.width,
+            p.lowest,
+            words.as_ptr(),
+            words.len(),
+        )
     }
 }
 

@@ -27,7 +27,7 @@
 //! ```
 //!
 //! A done call on a slot gives [`Done`]: a count, and how many bit planes are whole. Of a lossy record that says how much
-//! of it survived.
+//! of it survived. [`Params::lossy_floats_within`] takes a tolerance in degrees in place of planes.
 //!
 //! A refused call changes no buffer, with one exception: [`fpc_write`] and [`fpc_read`] leave both tables zero
 //! with [`Refusal::OutputTooLong`] and [`Refusal::NotAStream`].
@@ -56,6 +56,13 @@ pub const MIN_WIDTH: u32 = 16;
 /// The most bits of a slot, which every block fits; more are refused with [`Refusal::InvalidWidth`].
 pub const MAX_WIDTH: u32 = 8_462;
 
+/// The least lowest exponent, with which lossy floats keep all their planes; a lesser one is refused with
+/// [`Refusal::InvalidLowest`].
+pub const MIN_LOWEST: i32 = -300;
+
+/// The greatest lowest exponent; a greater one is refused with [`Refusal::InvalidLowest`].
+pub const MAX_LOWEST: i32 = 300;
+
 /// The most bytes of an archive; a longer one is refused with [`Refusal::ArchiveTooLong`].
 pub const MAX_ARCHIVE_LEN: usize = 65_536;
 
@@ -79,7 +86,7 @@ struct Readme;
 /// slot change.
 ///
 /// # Errors
-/// Refusals 1 to 10. [`Refusal::CodeTooLong`] has the bits that an exact block needs. A refused store changes nothing.
+/// Refusals 1 to 10 and 13. [`Refusal::CodeTooLong`] has the bits that an exact block needs. A refused store changes nothing.
 ///
 /// ```
 /// use windlassow::{Dimension, Done, Params, Refusal, store};
@@ -109,7 +116,7 @@ pub fn store(params: Params, archive: &mut [u8], slot: usize, words: &[u32]) -> 
 /// the archive beside it.
 ///
 /// # Errors
-/// Refusals 1 to 8, and in exact mode [`Refusal::NotACode`], 11. A refused read leaves `words` as they were.
+/// Refusals 1 to 8 and 13, and in exact mode [`Refusal::NotACode`], 11. A refused read leaves `words` as they were.
 ///
 /// ```
 /// use windlassow::{Dimension, Done, Params, Refusal, read};
@@ -133,7 +140,7 @@ pub fn read(params: Params, archive: &[u8], slot: usize, words: &mut [u32]) -> R
 /// The number of whole slots in an archive.
 ///
 /// # Errors
-/// Refusals 1 to 6.
+/// Refusals 1 to 6 and 13.
 ///
 /// ```
 /// use windlassow::{Dimension, Params, slot_count};
@@ -151,7 +158,7 @@ pub fn slot_count(params: Params, archive: &[u8]) -> Result<usize, Refusal> {
 /// matter, and the bits are those that a slot needs.
 ///
 /// # Errors
-/// Refusals 1 to 5, 8 and 9.
+/// Refusals 1 to 5, 8, 9 and 13.
 ///
 /// ```
 /// use windlassow::{Dimension, Done, Params, bit_count};

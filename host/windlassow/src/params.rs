@@ -1,6 +1,6 @@
 //! The parameters of a slot call.
 
-use crate::{MAX_ARCHIVE_LEN, MAX_WIDTH, MIN_WIDTH, Refusal};
+use crate::{MAX_ARCHIVE_LEN, MAX_LOWEST, MAX_WIDTH, MIN_LOWEST, MIN_WIDTH, Refusal};
 
 /// What the words of a block are.
 #[derive(Clone, Copy, Debug, PartialEq, Eq, Hash)]
@@ -27,7 +27,7 @@ pub enum Dimension {
 /// Whether a block comes back bit for bit.
 #[derive(Clone, Copy, Debug, PartialEq, Eq, Hash)]
 pub enum Mode {
-    /// The code is cut where the slot or the planes end.
+    /// The code is cut where the slot or the planes end, of floats also at the lowest exponent.
     Lossy,
     /// The block comes back as it was, or is refused as too long for the slot.
     Exact,
@@ -110,8 +110,8 @@ impl Mode {
 ///
 /// let narrow = exact.with_width(0);
 /// assert_eq!((narrow.width(), narrow.slot_bits()), (0, Ok(32)));
-/// assert_eq!(narrow, Params::from_numbers(1, 1, 1, 32, 0));
-/// assert_eq!(Params::from_numbers(2, 1, 1, 32, 0).kind(), Err(Refusal::InvalidKind));
+/// assert_eq!(narrow, Params::from_numbers(1, 1, 1, 32, 0, -300));
+/// assert_eq!(Params::from_numbers(2, 1, 1, 32, 0, -300).kind(), Err(Refusal::InvalidKind));
 /// ```
 #[derive(Clone, Copy, Debug, PartialEq, Eq, Hash)]
 pub struct Params {
@@ -120,10 +120,30 @@ pub struct Params {
     pub(crate) mode: u32,
     pub(crate) planes: u32,
     pub(crate) width: u32,
+    pub(crate) lowest: i32,
 }
 
 /// All planes of a word.
 const ALL_PLANES: u32 = 32;
+
+/// The largest q from [`MIN_LOWEST`] to [`MAX_LOWEST`] with 1.5 x 2^q at most this number, if there is one.
+const fn largest_exponent(number: f64) -> Option<i32> {
+    if number.is_nan() || number <= 0.0 {
+        return None;
+    }
+    // The exponent field less its bias, and one less again if the number is below 1.5 of that power of two. Of a subnormal number
+    // that is below all q, of the infinity above all.
+    let field = (number.to_bits() >> 52) as i32 - 1023;
+    let from_half = (number.to_bits() >> 51 & 1) as i32;
+    let exponent = field - 1 + from_half;
+    if exponent < MIN_LOWEST {
+        None
+    } else if exponent > MAX_LOWEST {
+        Some(MAX_LOWEST)
+    } else {
+        Some(exponent)
+    }
+}
 
 impl Params {
     /// Integers that come back bit for bit. The slots are 33N + 4 bits wide, which every block fits.
@@ -150,14 +170,65 @@ impl Params {
         Params::new(Kind::Floats, dimension, Mode::Lossy, planes, width)
     }
 
-    /// Any kind, dimension and mode.
-    pub const fn new(kind: Kind, dimension: Dimension, mode: Mode, planes: u32, width: u32) -> Params {
-        Params::from_numbers(kind.number(), dimension.number(), mode.number(), planes, width)
+    /// Floats with a tolerance: as many planes as it takes for values to come back so close, in slots of 33N + 14 bits, which
+    /// cut no block. The lowest exponent is the largest q from [`MIN_LOWEST`] to [`MAX_LOWEST`] with 1.5 x 2^q at most the
+    /// tolerance. Infinities and NaNs are refused when they are stored.
+    ///
+    /// **How close values come back is measured and not proved.** In the measurements no value came back off by 1.5 x 2^q where
+    /// m - q + 2 x (dimension + 1) is at most 32, that is where all values of the block are below 2^(q + 30 - 2 x dimension)
+    /// in magnitude, and below 2^126, and none by more than 2^q where one of them is 2^(q - 1) or more; see docs/LOSSY.md. Larger
+    /// values have more than 32 planes down to q, of which 32 are kept, and can be further off.
+    ///
+    /// # Errors
+    /// [`Refusal::InvalidLowest`] if there is no such q: the tolerance is below 1.5 x 2^-300, zero, negative or not a number.
+    ///
+    /// ```
+    /// use windlassow::{Block, Dimension, Params, Refusal, read_block, store_block};
+    ///
+    /// // Half a tenth of a degree: 1.5 x 2^-5 is 0.047. In dimension 1 that is for values below 2^23.
+    /// let params = Params::lossy_floats_within(Dimension::One, 0.05)?;
+    /// assert_eq!((params.lowest(), params.slot_bits()), (-5, Ok(146)));
+    ///
+    /// let readings = [36.6f32, 36.6, 36.7, 36.8];
+    /// let mut archive = vec![0; params.archive_len(1)?];
+    /// let lossy = store_block(params, &mut archive, 0, &readings)?;
+    /// let back: Block<f32, 4> = read_block(params, &archive, 0)?;
+    /// for (value, reading) in back.values.into_iter().zip(readings) {
+    ///     assert!((value - reading).abs() <= 0.05);
+    /// }
+    ///
+    /// // It takes fewer bits than the exact code.
+    /// let exact = store_block(Params::exact_floats(Dimension::One), &mut archive, 0, &readings)?;
+    /// assert!(lossy.count < exact.count);
+    ///
+    /// assert_eq!(Params::lossy_floats_within(Dimension::One, 0.0), Err(Refusal::InvalidLowest));
+    /// # Ok::<(), Refusal>(())
+    /// ```
+    pub const fn lossy_floats_within(dimension: Dimension, tolerance: f64) -> Result<Params, Refusal> {
+        match largest_exponent(tolerance) {
+            Some(lowest) => {
+                let width = 33 * dimension.block_len() as u32 + 14;
+                Ok(Params::lossy_floats(dimension, ALL_PLANES, width).with_lowest(lowest))
+            }
+            None => Err(Refusal::InvalidLowest),
+        }
     }
 
-    /// Any numbers, as they stand in a file or in the first line of a listing.
-    pub const fn from_numbers(kind: u32, dimension: u32, mode: u32, planes: u32, width: u32) -> Params {
-        Params { kind, dimension, mode, planes, width }
+    /// Any kind, dimension and mode, with [`MIN_LOWEST`] as the lowest exponent.
+    pub const fn new(kind: Kind, dimension: Dimension, mode: Mode, planes: u32, width: u32) -> Params {
+        Params::from_numbers(kind.number(), dimension.number(), mode.number(), planes, width, MIN_LOWEST)
+    }
+
+    /// Any numbers, as they stand in a file. (The first line of a listing has the last one with 300 added.)
+    pub const fn from_numbers(
+        kind: u32,
+        dimension: u32,
+        mode: u32,
+        planes: u32,
+        width: u32,
+        lowest: i32,
+    ) -> Params {
+        Params { kind, dimension, mode, planes, width, lowest }
     }
 
     /// The same with another width in bits: [`MIN_WIDTH`] to [`MAX_WIDTH`], or 0 for 8 bits a word.
@@ -168,6 +239,26 @@ impl Params {
     /// The same with another number of planes, 1 to 32. Exact mode takes no notice of it.
     pub const fn with_planes(self, planes: u32) -> Params {
         Params { planes, ..self }
+    }
+
+    /// The same with another lowest exponent q, [`MIN_LOWEST`] to [`MAX_LOWEST`]. Of a block of lossy floats at most
+    /// m - q + 2 x (dimension + 1) planes are kept, where m is the least number from -126 on such that all its values are below
+    /// 2^m in magnitude. [`MIN_LOWEST`] keeps all, up to the number of planes. Other kinds and modes take no notice of a good
+    /// one.
+    ///
+    /// ```
+    /// use windlassow::{Dimension, Done, Params, bit_count};
+    ///
+    /// // Four times 1.0: m is 1, so there are 5 - q planes.
+    /// let floats = Params::lossy_floats(Dimension::One, 32, 64);
+    /// let ones = [1.0f32.to_bits(); 4];
+    /// assert_eq!(bit_count(floats.with_lowest(2), &ones), Ok(Done { count: 15, planes: 3 }));
+    /// assert_eq!(bit_count(floats.with_lowest(4), &ones), Ok(Done { count: 10, planes: 1 }));
+    /// // None: the block is a single 0, and reads as zeros.
+    /// assert_eq!(bit_count(floats.with_lowest(5), &ones), Ok(Done { count: 1, planes: 0 }));
+    /// ```
+    pub const fn with_lowest(self, lowest: i32) -> Params {
+        Params { lowest, ..self }
     }
 
     /// The kind of the words.
@@ -202,6 +293,11 @@ impl Params {
     /// The width as it was given, 0 too. [`Params::slot_bits`] gives the bits that it stands for.
     pub const fn width(self) -> u32 {
         self.width
+    }
+
+    /// The lowest exponent as it was given.
+    pub const fn lowest(self) -> i32 {
+        self.lowest
     }
 
     /// N, the words of a block.

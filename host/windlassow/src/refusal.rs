@@ -9,7 +9,7 @@ use std::fmt::{self, Display, Formatter};
 /// both FPC tables zero.
 ///
 /// Each has the answer number of the project's rules, which [`Refusal::number`] gives. If several apply, the
-/// one of the lowest number is given, except that 23 comes before 22.
+/// one of the lowest number is given, except that 13 comes between 5 and 6 and 23 before 22.
 #[derive(Clone, Copy, Debug, PartialEq, Eq, Hash)]
 #[non_exhaustive]
 pub enum Refusal {
@@ -23,6 +23,8 @@ pub enum Refusal {
     InvalidPlanes,
     /// 5: the width is neither 0 nor from 16 to 8,462.
     InvalidWidth,
+    /// 13: the lowest exponent is not from -300 to 300.
+    InvalidLowest,
     /// 6: the archive is longer than 65,536 bytes.
     ArchiveTooLong,
     /// 7: the archive has no slot of that number.
@@ -65,6 +67,7 @@ impl Refusal {
             Refusal::InvalidMode => 3,
             Refusal::InvalidPlanes => 4,
             Refusal::InvalidWidth => 5,
+            Refusal::InvalidLowest => 13,
             Refusal::ArchiveTooLong => 6,
             Refusal::NoSuchSlot => 7,
             Refusal::InvalidBlockLen => 8,
@@ -108,6 +111,7 @@ impl Refusal {
             9 => Refusal::NotFinite,
             10 => Refusal::CodeTooLong { bits: count },
             11 => Refusal::NotACode,
+            13 => Refusal::InvalidLowest,
             20 => Refusal::InvalidTables,
             21 => Refusal::InputTooLong,
             22 => Refusal::OutputTooLong { needed: count },
@@ -124,6 +128,7 @@ impl Refusal {
             Refusal::InvalidMode => "the mode is not 0 or 1",
             Refusal::InvalidPlanes => "the number of planes is not from 1 to 32",
             Refusal::InvalidWidth => "the width is neither 0 nor from 16 to 8,462",
+            Refusal::InvalidLowest => "the lowest exponent is not from -300 to 300",
             Refusal::ArchiveTooLong => "the archive is longer than 65,536 bytes",
             Refusal::NoSuchSlot => "the archive has no slot of that number",
             Refusal::InvalidBlockLen => "the buffer of words has not the length of a block",

@@ -20,6 +20,10 @@ store: answer 0, count 40, planes 28
 28 of 32 planes are whole
 read: answer 0, count 4, planes 28
 2008 2008 2008 2008
+store: answer 0, count 27, planes 9
+read: answer 0, count 4, planes 9
+15.625 15.625 15.625 15.625
+bit_count: answer 13, count 0, planes 0
 store: answer 0, count 47, planes 32
 read: answer 0, count 256, planes 32
 1
@@ -38,6 +42,9 @@ fpc_write: answer 20, count 0
 //
 // The planes of 2000 2004 2008 2012 are written out in `testing::by_hand::planes::readings`: 28 of them end at the 38th bit,
 // and the next takes four. What is left of it is a one of the first coefficient, 2048 - 32 - 8 = 2008, and a test.
+//
+// 15.625 to 15.71875 are written out in `testing::by_hand::planes::degrees`: with q = -1 there are 4 + 1 + 4 = 9 planes of
+// 1, 3, 4 x 2 and 3 x 2 bits after the head of 9, and the first coefficient is 2048 - 64 + 32 - 16 = 2000 parts of a degree.
 
 /// Compiles the example in a language, links and runs it, and compares what it prints.
 fn run_as(language: &str, standard: &str) {

@@ -1,8 +1,9 @@
 //! The parts of the Rust interface that are not calls of the library: parameters, lengths, blocks of values, texts.
 
 use windlassow::{
-    Block, Dimension, Kind, MAX_ARCHIVE_LEN, MAX_RUN_LEN, MAX_STREAM_LEN, MAX_WIDTH, MIN_WIDTH, Mode, Params,
-    Refusal, Value, fpc_read, fpc_write, read_block, slot_count, slots, store_block,
+    Block, Dimension, Kind, MAX_ARCHIVE_LEN, MAX_LOWEST, MAX_RUN_LEN, MAX_STREAM_LEN, MAX_WIDTH, MIN_LOWEST,
+    MIN_WIDTH, Mode, Params, Refusal, Value, bit_count, fpc_read, fpc_write, read_block, slot_count, slots,
+    store_block,
 };
 
 const DIMENSIONS: [Dimension; 4] = [Dimension::One, Dimension::Two, Dimension::Three, Dimension::Four];
@@ -12,7 +13,9 @@ fn parameters_are_shown_as_they_were_given() {
     let p = Params::new(Kind::Floats, Dimension::Two, Mode::Lossy, 20, 130);
     assert_eq!((p.kind(), p.dimension(), p.mode()), (Ok(Kind::Floats), Ok(Dimension::Two), Ok(Mode::Lossy)));
     assert_eq!((p.planes(), p.width(), p.block_len(), p.slot_bits()), (20, 130, Ok(16), Ok(130)));
-    let bad = Params::from_numbers(2, 5, 4, 33, 15);
+    assert_eq!((p.lowest(), p.with_lowest(-5).lowest(), p.with_lowest(301).lowest()), (-300, -5, 301));
+    assert_eq!(p.with_lowest(7), Params::from_numbers(1, 2, 0, 20, 130, 7));
+    let bad = Params::from_numbers(2, 5, 4, 33, 15, MIN_LOWEST);
     assert_eq!(bad.kind(), Err(Refusal::InvalidKind));
     assert_eq!(bad.dimension(), Err(Refusal::InvalidDimension));
     assert_eq!(bad.mode(), Err(Refusal::InvalidMode));
@@ -28,7 +31,7 @@ fn lengths_and_widths_of_every_dimension() {
     let numbers =
         [(4, 32, 136, 146), (16, 128, 532, 542), (64, 512, 2_116, 2_126), (256, 2_048, 8_452, 8_462)];
     for (number, (dimension, (n, zero, integers, floats))) in (1..).zip(DIMENSIONS.into_iter().zip(numbers)) {
-        let p = Params::from_numbers(0, number, 0, 32, 0);
+        let p = Params::from_numbers(0, number, 0, 32, 0, MIN_LOWEST);
         assert_eq!((p.dimension(), p.block_len()), (Ok(dimension), Ok(n)));
         assert_eq!(Params::lossy_integers(dimension, 32, 0), p);
         assert_eq!((p.width(), p.slot_bits()), (0, Ok(zero)));
@@ -67,6 +70,12 @@ fn the_limits_are_the_librarys() {
         [(MIN_WIDTH - 1, false), (MIN_WIDTH, true), (MAX_WIDTH, true), (MAX_WIDTH + 1, false)]
     {
         assert_eq!(slot_count(p.with_width(width), &[]).is_ok(), is_good, "width {width}");
+    }
+    for (lowest, is_good) in
+        [(MIN_LOWEST - 1, false), (MIN_LOWEST, true), (MAX_LOWEST, true), (MAX_LOWEST + 1, false)]
+    {
+        let expected = if is_good { Ok(0) } else { Err(Refusal::InvalidLowest) };
+        assert_eq!(slot_count(p.with_lowest(lowest), &[]), expected, "lowest exponent {lowest}");
     }
     assert!(slot_count(p, &vec![0; MAX_ARCHIVE_LEN]).is_ok());
     assert_eq!(slot_count(p, &vec![0; MAX_ARCHIVE_LEN + 1]), Err(Refusal::ArchiveTooLong));
@@ -166,4 +175,92 @@ fn texts_of_refusals() {
         Refusal::CodeTooLong { bits: 136 }.to_string(),
         "the code is longer than the slot: it needs 136 bits"
     );
+    assert_eq!(Refusal::InvalidLowest.number(), 13);
+    assert_eq!(Refusal::InvalidLowest.to_string(), "the lowest exponent is not from -300 to 300");
+}
+
+/// All constructors but one keep all exponents.
+#[test]
+fn parameters_keep_all_exponents() {
+    for dimension in DIMENSIONS {
+        let all = [
+            Params::exact_integers(dimension),
+            Params::exact_floats(dimension),
+            Params::lossy_integers(dimension, 20, 64),
+            Params::lossy_floats(dimension, 20, 64),
+            Params::new(Kind::Floats, dimension, Mode::Lossy, 20, 64),
+        ];
+        assert!(all.iter().all(|p| p.lowest() == MIN_LOWEST));
+    }
+}
+
+/// A const, since the constructor is a const function.
+const HALF_A_TENTH: Result<Params, Refusal> = Params::lossy_floats_within(Dimension::One, 0.05);
+
+/// The largest q with 1.5 x 2^q at most the tolerance.
+#[test]
+fn the_lowest_exponent_of_a_tolerance() {
+    let lowest = |tolerance| Params::lossy_floats_within(Dimension::One, tolerance).map(Params::lowest);
+    assert_eq!(HALF_A_TENTH.map(Params::lowest), Ok(-5));
+    for (tolerance, q) in [
+        (1.0, -1),
+        (1.9, 0),
+        (2.0, 0),
+        (3.0, 1),
+        (0.5, -2),
+        (0.1, -4),
+        (0.01, -8),
+        (0.001, -11),
+        (f64::INFINITY, 300),
+    ] {
+        assert_eq!(lowest(tolerance), Ok(q), "{tolerance}");
+    }
+    for q in MIN_LOWEST..=MAX_LOWEST {
+        let most = 1.5 * 2f64.powi(q);
+        assert_eq!((lowest(most), lowest(1.9 * most)), (Ok(q), Ok(q)));
+        let below = f64::from_bits(most.to_bits() - 1);
+        assert_eq!(lowest(below).ok(), (q > MIN_LOWEST).then_some(q - 1));
+    }
+    assert_eq!((lowest(2f64.powi(301)), lowest(f64::MAX)), (Ok(300), Ok(300)));
+    for bad in
+        [0.0, -0.0, -0.05, -f64::MAX, f64::NEG_INFINITY, f64::NAN, -f64::NAN, 5e-324, f64::MIN_POSITIVE]
+    {
+        assert_eq!(lowest(bad), Err(Refusal::InvalidLowest), "{bad}");
+    }
+}
+
+/// P = 32, and a slot that cuts no block.
+#[test]
+fn the_slots_of_a_tolerance() {
+    for dimension in DIMENSIONS {
+        let p = Params::lossy_floats_within(dimension, 0.05).unwrap();
+        let n = dimension.block_len();
+        let width = 33 * n as u32 + 14;
+        assert_eq!(p, Params::lossy_floats(dimension, 32, width).with_lowest(-5));
+        assert_eq!((p.kind(), p.mode(), p.slot_bits()), (Ok(Kind::Floats), Ok(Mode::Lossy), Ok(33 * n + 14)));
+    }
+}
+
+/// Readings of a refrigerator in tenths of a degree: each comes back within the tolerance, in fewer bits than exactly. A coarser
+/// tolerance takes no more bits.
+#[test]
+fn readings_come_back_within_the_tolerance() {
+    let readings: [f32; 16] =
+        std::array::from_fn(|place| 4.0 + [3, 1, 4, 1, 5, 9, 2, 6][place % 8] as f32 / 10.0);
+    let mut bits =
+        bit_count(Params::exact_floats(Dimension::Two), &readings.map(f32::to_bits)).unwrap().count;
+    for tolerance in [0.001, 0.01, 0.05, 0.1, 0.5, 1.0, 5.0] {
+        let p = Params::lossy_floats_within(Dimension::Two, tolerance).unwrap();
+        let mut archive = vec![0; p.archive_len(1).unwrap()];
+        let done = store_block(p, &mut archive, 0, &readings).unwrap();
+        let back: Block<f32, 16> = read_block(p, &archive, 0).unwrap();
+        for (value, reading) in back.values.into_iter().zip(readings) {
+            assert!(
+                f64::from(value - reading).abs() <= tolerance,
+                "{value} for {reading} within {tolerance}"
+            );
+        }
+        assert!(done.count < bits, "{} bits within {tolerance}", done.count);
+        bits = done.count;
+    }
 }

@@ -9,7 +9,7 @@ use std::fmt::Debug;
 use std::ops::{Deref, DerefMut};
 use std::time::{Duration, Instant};
 use std::{fs, ptr, slice};
-use windlassow::{Params, Refusal, bit_count, fpc_read, fpc_write, read, slot_count, store};
+use windlassow::{MIN_LOWEST, Params, Refusal, bit_count, fpc_read, fpc_write, read, slot_count, store};
 
 /// What a call may take. It is far more than a call takes, since the machine may be busy, and far less than a walk.
 const LIMIT: Duration = Duration::from_millis(50);
@@ -111,7 +111,7 @@ fn huge_words(dimension: u32) -> Mapped<u32> {
 }
 
 fn params([kind, dimension, mode, planes, width]: [u32; 5]) -> Params {
-    Params::from_numbers(kind, dimension, mode, planes, width)
+    Params::from_numbers(kind, dimension, mode, planes, width, MIN_LOWEST)
 }
 
 /// Good parameters of each kind, dimension and mode, with the dimension.
@@ -141,6 +141,9 @@ fn bad() -> Vec<(u32, Params)> {
         }
         for width in [1, 15, 8_463, u32::MAX] {
             all.push((5, params([kind, 1, mode, 32, width])));
+        }
+        for lowest in [i32::MIN, -301, 301, i32::MAX] {
+            all.push((13, params([kind, 1, mode, 32, 0]).with_lowest(lowest)));
         }
     }
     all

@@ -8,8 +8,8 @@ use reference::{floats, transform};
 use std::thread;
 use testing::{EXACT, FLOATS, INTEGERS, LOSSY, by_hand};
 use windlassow::{
-    Done, MAX_RUN_LEN, MAX_STREAM_LEN, MAX_WIDTH, Params, STACK_BYTES, bit_count, fpc_read, fpc_write, read,
-    store,
+    Done, MAX_RUN_LEN, MAX_STREAM_LEN, MAX_WIDTH, MIN_LOWEST, Params, STACK_BYTES, bit_count, fpc_read,
+    fpc_write, read, store,
 };
 
 /// Does this in a thread of that stack.
@@ -21,7 +21,7 @@ fn in_a_small_thread<T: Send>(name: &str, call: impl FnOnce() -> T + Send) -> T 
 }
 
 fn params(kind: u32, mode: u32) -> Params {
-    Params::from_numbers(kind, 4, mode, 32, MAX_WIDTH)
+    Params::from_numbers(kind, 4, mode, 32, MAX_WIDTH, MIN_LOWEST)
 }
 
 /// Blocks in one plane of which all 256 bits are ones that are still to be found, which takes the most calls within calls.

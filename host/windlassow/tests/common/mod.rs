@@ -3,7 +3,7 @@
 
 pub use random::{Random, is_long, rounds};
 use reference::{FpcReply, Reply};
-pub use testing::{Answers, EXACT, FLOATS, Guarded, INTEGERS, LOSSY};
+pub use testing::{Answers, EXACT, FLOATS, Guarded, INTEGERS, LOSSY, MAX_LOWEST, MIN_LOWEST};
 use windlassow::{Done, Refusal};
 
 /// The outcome of the library's slot call in the shape of the reference's. The interface sees to it that a refusal reports 0

@@ -1,7 +1,8 @@
-//! Outcomes worked out by hand from document 01, on the library alone.
+//! Outcomes worked out by hand from the papers, on the library alone.
 
+use testing::by_hand::planes as on_paper;
 use testing::{bits, by_hand};
-use windlassow::{Done, Params, Refusal, bit_count, read, slot_count, store};
+use windlassow::{Done, MIN_LOWEST, Params, Refusal, bit_count, read, slot_count, store};
 
 const ONE: u32 = 0x3F80_0000;
 
@@ -31,7 +32,7 @@ fn stores_and_reads(p: Params, words: &[u32; 4], code: &str, planes: u32, back: 
 /// Four equal integers c have the coefficients c 0 0 0, so the code shows P8: -1, 1, 2, -2 are 3, 1, 6, 2.
 #[test]
 fn equal_integers_of_p8() {
-    let p = Params::from_numbers(0, 1, 1, 32, 64);
+    let p = Params::from_numbers(0, 1, 1, 32, 64, MIN_LOWEST);
     let zeros = |count| "0".repeat(count);
     stores(p, &[-1i32 as u32; 4], &format!("11111 {} 110 10", zeros(30)), 32);
     stores(p, &[1; 4], &format!("11111 {} 110", zeros(31)), 32);
@@ -44,7 +45,7 @@ fn equal_integers_of_p8() {
 #[test]
 fn columns_are_next_to_each_other() {
     for dimension in 1..=4 {
-        let p = Params::from_numbers(0, dimension, 1, 32, 64);
+        let p = Params::from_numbers(0, dimension, 1, 32, 64, MIN_LOWEST);
         for axis in 0..dimension as usize {
             let block: Vec<u32> =
                 (0..4usize.pow(dimension)).map(|place| by_hand::indices(place)[axis] as u32).collect();
@@ -57,7 +58,7 @@ fn columns_are_next_to_each_other() {
 #[test]
 fn the_order_of_coefficients() {
     for dimension in 1..=4 {
-        let p = Params::from_numbers(0, dimension, 1, 32, 300);
+        let p = Params::from_numbers(0, dimension, 1, 32, 300, MIN_LOWEST);
         for (number, place) in by_hand::order(dimension) {
             stores(p, &by_hand::single(dimension, place), &by_hand::single_code(dimension, number), 32);
         }
@@ -68,7 +69,7 @@ fn the_order_of_coefficients() {
 #[test]
 fn the_longest_integer_block() {
     for (dimension, needed) in [(1, 136), (2, 532), (3, 2_116), (4, 8_452)] {
-        let p = Params::from_numbers(0, dimension, 1, 32, needed as u32);
+        let p = Params::from_numbers(0, dimension, 1, 32, needed as u32, MIN_LOWEST);
         let block = by_hand::longest(dimension);
         let mut archive = stores(p, &block, &"1".repeat(needed), 32);
         let narrow = p.with_width(needed as u32 - 1);
@@ -85,7 +86,7 @@ fn one_word_of_a_cube_and_of_a_stack() {
     for dimension in [3, 4] {
         let mut block = vec![0; 4usize.pow(dimension)];
         block[0] = 1;
-        let p = Params::from_numbers(0, dimension, 1, 32, 1024);
+        let p = Params::from_numbers(0, dimension, 1, 32, 1024, MIN_LOWEST);
         stores(p, &block, &by_hand::first_word_code(dimension), 32);
     }
 }
@@ -94,7 +95,7 @@ fn one_word_of_a_cube_and_of_a_stack() {
 #[test]
 fn axis_by_axis_from_i_on_and_back() {
     for dimension in 2..=4 {
-        let p = Params::from_numbers(0, dimension, 0, 32, 64);
+        let p = Params::from_numbers(0, dimension, 0, 32, 64, MIN_LOWEST);
         for axis in 0..dimension as usize - 1 {
             stores(p, &by_hand::axes_block(dimension, axis), &by_hand::axes_code(axis), 32);
             let (code, block) = by_hand::axes_slot(dimension, axis);
@@ -112,7 +113,7 @@ fn axis_by_axis_from_i_on_and_back() {
 /// come 1 0 0 0, 1 1 0 0 and 0 1 0 0.
 #[test]
 fn lossy_integers_cut_by_planes_and_by_the_budget() {
-    let p = |planes, width| Params::from_numbers(0, 1, 0, planes, width);
+    let p = |planes, width| Params::from_numbers(0, 1, 0, planes, width, MIN_LOWEST);
     let block = [1, 2, 3, 4];
     let empty = "0".repeat(29);
     stores_and_reads(p(32, 64), &block, &format!("{empty} 110 1110 010"), 32, [0, 2, 2, 4]);
@@ -131,7 +132,7 @@ fn lossy_integers_cut_by_planes_and_by_the_budget() {
 /// gives the block back.
 #[test]
 fn a_lossy_block_that_comes_back() {
-    let p = Params::from_numbers(0, 1, 0, 32, 64);
+    let p = Params::from_numbers(0, 1, 0, 32, 64, MIN_LOWEST);
     let code = format!("{} 101110 1111 0101 0100", "0".repeat(28));
     stores_and_reads(p, &[0, 0, 0, 16], &code, 32, [0, 0, 0, 16]);
 }
@@ -139,7 +140,7 @@ fn a_lossy_block_that_comes_back() {
 /// 0 1 5 18 has the differences 0 1 3 6, in negabinary 0 1 7 26.
 #[test]
 fn differences_up_to_the_third() {
-    let p = Params::from_numbers(0, 1, 1, 32, 64);
+    let p = Params::from_numbers(0, 1, 1, 32, 64, MIN_LOWEST);
     let code = format!("11111 {} 1000 0001 0010 0011 0110", "0".repeat(27));
     stores_and_reads(p, &[0, 1, 5, 18], &code, 32, [0, 1, 5, 18]);
 }
@@ -147,7 +148,7 @@ fn differences_up_to_the_third() {
 /// Four times 1.0: e is 128, the integers are 2^29, the planes as in P5. The head's 9 bits are part of the width.
 #[test]
 fn lossy_floats_have_a_head_of_9_bits() {
-    let p = |planes, width| Params::from_numbers(1, 1, 0, planes, width);
+    let p = |planes, width| Params::from_numbers(1, 1, 0, planes, width, MIN_LOWEST);
     let ones = [ONE as i32; 4];
     stores_and_reads(p(3, 64), &[ONE; 4], "1 00000001 0 110 10", 3, ones);
     stores_and_reads(p(32, 16), &[ONE; 4], "1 00000001 0 110 10 0", 3, ones);
@@ -163,7 +164,7 @@ fn lossy_floats_have_a_head_of_9_bits() {
 /// Beside 1.0, for which m = 1, a value must be a whole multiple of 2^-29.
 #[test]
 fn the_form_with_e_is_for_whole_multiples() {
-    let p = Params::from_numbers(1, 1, 1, 32, 146);
+    let p = Params::from_numbers(1, 1, 1, 32, 146, MIN_LOWEST);
     let form = |words: &[u32; 4]| {
         let mut archive = [0; 19];
         store(p, &mut archive, 0, words).map(|_| archive[0] & 3)
@@ -184,14 +185,14 @@ fn the_form_with_e_is_for_whole_multiples() {
 /// Four times -0: 0x80000000 xor 0x7FFFFFFF is -1, in negabinary 3.
 #[test]
 fn minus_zeros_are_flipped_to_minus_ones() {
-    let p = Params::from_numbers(1, 1, 1, 32, 146);
+    let p = Params::from_numbers(1, 1, 1, 32, 146, MIN_LOWEST);
     stores(p, &[0x8000_0000; 4], &format!("11 11111 {} 110 10", "0".repeat(30)), 32);
 }
 
 #[test]
 fn slot_counts() {
     let count = |dimension, width, bytes| {
-        let p = Params::from_numbers(0, dimension, 1, 32, width);
+        let p = Params::from_numbers(0, dimension, 1, 32, width, MIN_LOWEST);
         slot_count(p, &vec![0; bytes]).map_err(|refusal| refusal.number())
     };
     // W = 0 stands for 8N.
@@ -203,4 +204,77 @@ fn slot_counts() {
     assert_eq!(count(1, 8_462, 1_057), Ok(0));
     assert_eq!(count(4, 8_462, 65_536), Ok(61));
     assert_eq!(count(1, 17, 65_537), Err(6));
+}
+
+/// Four times 1.0: m = 1, so in dimension 1 there are 5 - q planes.
+#[test]
+fn the_worked_blocks_of_the_lowest_exponent() {
+    let p = |lowest| Params::from_numbers(1, 1, 0, 32, 64, lowest);
+    let (ones, twos) = ([ONE as i32; 4], [0x4000_0000; 4]);
+    stores_and_reads(p(300), &[ONE; 4], "0", 0, [0; 4]);
+    stores_and_reads(p(5), &[ONE; 4], "0", 0, [0; 4]);
+    stores_and_reads(p(4), &[ONE; 4], "1 00000001 0", 1, [0; 4]);
+    stores_and_reads(p(3), &[ONE; 4], "1 00000001 0 110", 2, twos);
+    stores_and_reads(p(2), &[ONE; 4], "1 00000001 0 110 10", 3, ones);
+    // P is smaller.
+    stores_and_reads(p(2).with_planes(2), &[ONE; 4], "1 00000001 0 110", 2, twos);
+    stores_and_reads(p(-300).with_planes(1), &[ONE; 4], "1 00000001 0", 1, [0; 4]);
+    // The smallest subnormal number, m = -126, and 2^127, m = 128.
+    stores_and_reads(p(-122), &[1; 4], "0", 0, [0; 4]);
+    stores_and_reads(p(-123), &[1; 4], "1 10000000 0", 1, [0; 4]);
+    stores_and_reads(p(132), &[0x7F00_0000; 4], "0", 0, [0; 4]);
+    stores_and_reads(p(131), &[0x7F00_0000; 4], "1 11111111 0", 1, [0; 4]);
+    stores_and_reads(p(129), &[0x7F00_0000; 4], "1 11111111 0 110 10", 3, [0x7F00_0000; 4]);
+}
+
+/// Ones and readings in degrees, with every number of planes down to q and every P. What the readings come back as is worked
+/// out too.
+#[test]
+fn planes_down_to_the_lowest_exponent() {
+    for dimension in 1..=4 {
+        for block in [on_paper::ones(dimension), on_paper::degrees(dimension)] {
+            for to_lowest in -2..=34 {
+                for planes in 1..=32 {
+                    let lowest = block.lowest(to_lowest);
+                    let p = Params::from_numbers(1, dimension, 0, planes, 8_462, lowest);
+                    let coded = planes.min(to_lowest.max(0) as u32);
+                    let code = if coded == 0 { "0".to_string() } else { block.code(coded) };
+                    let archive = stores(p, &block.words, &code, coded);
+                    let mut back = vec![9; block.words.len()];
+                    let done = Done { count: back.len(), planes: coded };
+                    assert_eq!(read(p, &archive, 0, &mut back), Ok(done), "{p:?}");
+                    if block.m == Some(4) {
+                        let line = on_paper::degrees_read(coded);
+                        let line = line.map(|parts| (parts * on_paper::PART).to_bits());
+                        assert!(back.chunks(4).all(|words| words == line), "{p:?}");
+                    }
+                }
+            }
+        }
+    }
+}
+
+/// A first bit 1 whose e leaves no planes: zeros, whatever follows. e = 0 is m = -127, e = 255 is m = 128.
+#[test]
+fn a_first_bit_1_with_no_planes() {
+    for (dimension, more) in [(1, 4), (2, 6), (3, 8), (4, 10)] {
+        for (e, m) in [(0, -127), (1, -126), (128, 1), (254, 127), (255, 128)] {
+            let reads = |lowest, rest: u8| {
+                let p = Params::from_numbers(1, dimension, 0, 32, 16, lowest);
+                let mut words = vec![9; 4usize.pow(dimension)];
+                let archive = [1 | (e << 1) as u8, (e >> 7) as u8 | rest << 1];
+                let done = read(p, &archive, 0, &mut words).expect("every lossy slot is read");
+                (done.planes, words)
+            };
+            for rest in [0, 0x2D, 0x55, 0x7F] {
+                for lowest in [m + more, m + more + 1, 300] {
+                    assert_eq!(reads(lowest, rest), (0, vec![0; 4usize.pow(dimension)]));
+                }
+            }
+            // A plane more: an empty one, and one that has a one at place 0.
+            assert_eq!(reads(m + more - 1, 0), (1, vec![0; 4usize.pow(dimension)]));
+            let (planes, words) = reads(m + more - 1, 0x03);
+            assert!(planes == 1 && words.iter().all(|&word| word == words[0] && word >> 31 == 1));
+        }
+    }
 }

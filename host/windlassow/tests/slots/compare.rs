@@ -31,7 +31,7 @@ pub fn width_of(p: &Params) -> usize {
 }
 
 pub fn ours(p: &Params) -> windlassow::Params {
-    windlassow::Params::from_numbers(p.kind, p.dimension, p.mode, p.planes, p.width)
+    windlassow::Params::from_numbers(p.kind, p.dimension, p.mode, p.planes, p.width, p.lowest)
 }
 
 /// Stores with both, compares the whole of the archives, and looks at the rules that need no comparison: a

@@ -134,8 +134,18 @@ pub fn planes_of(p: &Params, slot: &[bool]) -> u32 {
         (FLOATS, _) if !slot[0] => 0,
         (INTEGERS, EXACT) => number(0),
         (_, EXACT) => number(if slot[1] { 2 } else { 10 }),
-        (kind, _) => walked(&slot[head_len(kind)..], block_len(p), p.planes).0,
+        (kind, _) => walked(&slot[head_len(kind)..], block_len(p), planes_coded(p, slot)).0,
     }
+}
+
+/// The planes that a lossy slot is read to: P, and of floats no more than from its e down to q.
+pub fn planes_coded(p: &Params, slot: &[bool]) -> u32 {
+    if p.kind == INTEGERS {
+        return p.planes;
+    }
+    let e: i32 = (0..8).map(|k| i32::from(slot[1 + k]) << k).sum();
+    let to_lowest = e - 125 + 2 * p.dimension as i32 - p.lowest;
+    to_lowest.clamp(0, p.planes as i32) as u32
 }
 
 /// The bits before the planes of a lossy slot.
@@ -156,7 +166,7 @@ impl Seen {
     pub fn count(&mut self, p: &Params, slot: &[bool], planes: u32) {
         *self.planes.entry(planes).or_default() += 1;
         if p.kind == INTEGERS || slot[0] {
-            let (_, end) = walked(&slot[head_len(p.kind)..], block_len(p), p.planes);
+            let (_, end) = walked(&slot[head_len(p.kind)..], block_len(p), planes_coded(p, slot));
             *self.ends.entry(end).or_default() += 1;
         }
     }

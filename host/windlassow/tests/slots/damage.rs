@@ -14,7 +14,7 @@ fn one_damaged_bit() {
         let step = [1, 1, 3, 37][dimension as usize - 1];
         for _ in 0..rounds(if dimension < 3 { 16 } else { 6 }) {
             let width = any_width(&mut random, dimension).min(37 * 4u32.pow(dimension));
-            let p = Params { kind, dimension, mode, planes: 32, width };
+            let p = Params { kind, dimension, mode, planes: 32, width, lowest: MIN_LOWEST };
             let maker = random.below(MAKERS);
             let words = block(&mut random, maker, block_len(&p));
             let archive = archive_for(&mut random, &p, 3);
@@ -36,7 +36,8 @@ fn many_damaged_bits() {
     for (kind, dimension, mode) in all_kinds() {
         for _ in 0..rounds_in(dimension, 1500) {
             let width = any_width(&mut random, dimension);
-            let p = Params { kind, dimension, mode, planes: any_planes(&mut random), width };
+            let p =
+                Params { kind, dimension, mode, planes: any_planes(&mut random), width, lowest: MIN_LOWEST };
             let maker = random.below(MAKERS);
             let words = block(&mut random, maker, block_len(&p));
             let (_, mut archive) = compare_store(&p, &vec![0; width.div_ceil(8) as usize], 0, &words);
@@ -72,7 +73,8 @@ fn random_slots() {
     for (kind, dimension, mode) in all_kinds() {
         for _ in 0..rounds_in(dimension, 5000) {
             let width = if random.once_in(2) { 0 } else { any_width(&mut random, dimension) };
-            let p = Params { kind, dimension, mode, planes: any_planes(&mut random), width };
+            let p =
+                Params { kind, dimension, mode, planes: any_planes(&mut random), width, lowest: MIN_LOWEST };
             let archive = random_slot(&mut random, &p);
             answers.count(compare_read(&p, &archive, 0, block_len(&p)).0.answer);
         }
@@ -85,7 +87,7 @@ fn random_slots() {
 #[test]
 fn every_slot_of_16_bits() {
     for (kind, dimension, mode) in all_kinds() {
-        let p = Params { kind, dimension, mode, planes: 32, width: 16 };
+        let p = Params { kind, dimension, mode, planes: 32, width: 16, lowest: MIN_LOWEST };
         let mut refused = 0;
         for slot in (0..=u16::MAX).step_by([1, 1, 1, 7][dimension as usize - 1]) {
             let archive = slot.to_le_bytes();
@@ -124,7 +126,14 @@ fn exact_slots_with_other_heads() {
     for dimension in 1..=4 {
         for _ in 0..rounds_in(dimension, 20_000) {
             let kind = random.below(2) as u32;
-            let p = Params { kind, dimension, mode: EXACT, planes: 1, width: wide(dimension) };
+            let p = Params {
+                kind,
+                dimension,
+                mode: EXACT,
+                planes: 1,
+                width: wide(dimension),
+                lowest: MIN_LOWEST,
+            };
             let mut archive = vec![0; p.width.div_ceil(8) as usize];
             let mut at = 0;
             if kind == FLOATS {
@@ -157,7 +166,14 @@ fn exact_float_slots_at_the_border_of_forms() {
     let mut random = Random::new(10);
     let mut answers = Answers::none();
     for dimension in (1..=4).flat_map(|dimension| vec![dimension; rounds_in(dimension, 10_000)]) {
-        let p = Params { kind: FLOATS, dimension, mode: EXACT, planes: 32, width: wide(dimension) };
+        let p = Params {
+            kind: FLOATS,
+            dimension,
+            mode: EXACT,
+            planes: 32,
+            width: wide(dimension),
+            lowest: MIN_LOWEST,
+        };
         let e = random.below(256) as u32;
         let mut integers: Vec<u32> = (0..block_len(&p))
             .map(|_| {
@@ -189,8 +205,14 @@ fn lossy_float_slots_of_every_e() {
         for dimension in 1..=4 {
             for _ in 0..rounds_in(dimension, 40) {
                 let width = any_width(&mut random, dimension);
-                let p =
-                    Params { kind: FLOATS, dimension, mode: LOSSY, planes: any_planes(&mut random), width };
+                let p = Params {
+                    kind: FLOATS,
+                    dimension,
+                    mode: LOSSY,
+                    planes: any_planes(&mut random),
+                    width,
+                    lowest: MIN_LOWEST,
+                };
                 let mut archive = vec![0; width.div_ceil(8) as usize];
                 let mut at = 0;
                 put(&mut archive, &mut at, &[true]);
@@ -213,7 +235,8 @@ fn a_read_does_not_see_the_neighbours() {
     for (kind, dimension, mode) in all_kinds() {
         for _ in 0..rounds_in(dimension, 300) {
             let width = any_width(&mut random, dimension);
-            let p = Params { kind, dimension, mode, planes: any_planes(&mut random), width };
+            let p =
+                Params { kind, dimension, mode, planes: any_planes(&mut random), width, lowest: MIN_LOWEST };
             let maker = random.below(MAKERS);
             let words = block(&mut random, maker, block_len(&p));
             let archive = archive_for(&mut random, &p, 3);

@@ -7,6 +7,7 @@ mod common;
 mod compare;
 mod cuts;
 mod damage;
+mod lowest;
 mod make;
 mod planes;
 mod refusals;
@@ -14,7 +15,9 @@ mod refusals;
 /// Document 01's own cases, on the library alone.
 #[test]
 fn cases_of_document_01() {
-    let p = |kind, mode, width| windlassow::Params::from_numbers(kind, 1, mode, 32, width);
+    let p = |kind, mode, width| {
+        windlassow::Params::from_numbers(kind, 1, mode, 32, width, windlassow::MIN_LOWEST)
+    };
     let done = |count, planes| Ok(windlassow::Done { count, planes });
     let longest = [0xaaaaaaab, 0x55555556, 0xaaaaaaac, 0x55555558];
     let mut archive = [0xFF; 18];

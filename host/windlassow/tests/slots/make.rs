@@ -151,3 +151,8 @@ pub fn any_width(random: &mut Random, dimension: u32) -> u32 {
 pub fn any_planes(random: &mut Random) -> u32 {
     if random.once_in(3) { 32 } else { 1 + random.below(32) as u32 }
 }
+
+/// Any good q.
+pub fn any_lowest(random: &mut Random) -> i32 {
+    MIN_LOWEST + random.below((MAX_LOWEST - MIN_LOWEST) as usize + 1) as i32
+}

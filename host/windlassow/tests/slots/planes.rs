@@ -24,6 +24,7 @@ fn blocks_by_hand_at_every_width() {
                     mode: LOSSY,
                     planes,
                     width: width as u32,
+                    lowest: MIN_LOWEST,
                 };
                 let planes = block.whole(planes, width);
                 let done = Ok(Done { count: uncut.min(width), planes });
@@ -67,7 +68,7 @@ impl Cut {
     /// A block that is stored, and not as a single 0.
     fn new(random: &mut Random, kind: u32, dimension: u32, planes: u32) -> Cut {
         let head = head_len(kind);
-        let p = Params { kind, dimension, mode: LOSSY, planes, width: MAX_WIDTH };
+        let p = Params { kind, dimension, mode: LOSSY, planes, width: MAX_WIDTH, lowest: MIN_LOWEST };
         loop {
             let maker = random.pick(&[0, 0, 0, 3, 4, 5, 6, 7, 9, 10, 12, 13]);
             let words = match random.below(4) {
@@ -198,7 +199,7 @@ fn made_slot(random: &mut Random, kind: u32, dimension: u32) -> (Params, Vec<boo
     slot.extend(code);
     slot.truncate(width);
     slot.resize_with(width, || random.once_in(2));
-    (Params { kind, dimension, mode: LOSSY, planes, width: width as u32 }, slot)
+    (Params { kind, dimension, mode: LOSSY, planes, width: width as u32, lowest: MIN_LOWEST }, slot)
 }
 
 /// Lossy slots that no store has written, whole or with a damaged bit, and slots of any bits.
@@ -236,11 +237,18 @@ fn a_single_0_has_no_planes() {
     for dimension in 1..=4 {
         let n = 4usize.pow(dimension);
         for mode in [LOSSY, EXACT] {
-            let p = Params { kind: FLOATS, dimension, mode, planes: any_planes(&mut random), width: 64 };
+            let p = Params {
+                kind: FLOATS,
+                dimension,
+                mode,
+                planes: any_planes(&mut random),
+                width: 64,
+                lowest: MIN_LOWEST,
+            };
             let reply = compare_all(&p, &[0xFF; 8], 0, &vec![0; n]);
             assert_eq!((reply.answer, reply.count, reply.planes), (0, 1, 0));
         }
-        let p = Params { kind: FLOATS, dimension, mode: LOSSY, planes: 32, width: 64 };
+        let p = Params { kind: FLOATS, dimension, mode: LOSSY, planes: 32, width: 64, lowest: MIN_LOWEST };
         let zeros = every(&mut random, n, |random, _| random.word() & 0x8000_0000);
         let reply = compare_all(&p, &[0xFF; 8], 0, &zeros);
         assert_eq!((reply.answer, reply.count, reply.planes), (0, 1, 0));
