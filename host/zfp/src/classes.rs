@@ -5,7 +5,8 @@
 //! [`crate::expected`].
 
 use reference::bits::Reader;
-use reference::floats::{common_exponent, exponent_field, is_zero};
+use reference::code::float_planes;
+use reference::floats::{common_exponent, exponent, exponent_field, is_zero};
 use reference::params::{Checked, Kind, Mode};
 
 /// Why an outcome of libzfp is not document 01's.
@@ -115,11 +116,6 @@ const LARGEST_POWER: i32 = 127;
 /// The smallest power of two of binary32, a subnormal number, is 2^-149.
 const SMALLEST_POWER: i32 = -149;
 
-/// m = e - 127.
-fn exponent(e: u32) -> i32 {
-    e as i32 - 127
-}
-
 /// The condition of [`Class::ScaleOverflow`]: the factor 2^(30-m) is no finite binary32 number.
 ///
 /// That is m < -97, or a largest exponent field below 29. Document 002 names the overflow (ZFP_WITH_DAZ, issue 119);
@@ -180,7 +176,7 @@ pub struct Head {
     pub len: usize,
     /// e, in the forms of floats that have it.
     pub e: Option<u32>,
-    /// The planes that follow.
+    /// The planes that follow. In a slot that no store has written these can be none.
     pub planes: u32,
     /// Whether the words are patterns with their negative ones flipped.
     pub flipped: bool,
@@ -206,7 +202,8 @@ impl Head {
             }
         }
         if p.mode == Mode::Lossy {
-            return Some(Head { len, e, planes: p.planes, flipped });
+            let planes = e.map_or(p.planes, |e| float_planes(p, e));
+            return Some(Head { len, e, planes, flipped });
         }
         let planes = reader.number(5) + 1;
         Some(Head { len: len + 5, e, planes, flipped })

@@ -7,6 +7,8 @@ use crate::libzfp::{Libzfp, Setting, checked, setting, shape};
 use crate::order::{Reordered, reordered};
 use crate::planes::{planes_read, planes_within};
 use crate::tally::{Origin, Tally};
+use reference::code::float_planes;
+use reference::floats::{common_exponent, is_zero};
 use reference::params::{Checked, Kind, Mode};
 use reference::{Params, Reply};
 use windlassow::Done;
@@ -61,8 +63,15 @@ fn is_counted(p: &Params, words: &[u32], stored: Reply) -> bool {
     if stored.answer == 10 { counted.count == stored.count } else { counted == stored }
 }
 
+/// The planes that P and q leave of a block of lossy floats that is stored and not all zero.
+fn planes_left(c: &Checked, words: &[u32], reply: Reply) -> Option<u32> {
+    let is_float = c.kind == Kind::Floats && c.mode == Mode::Lossy && reply.answer == 0;
+    let some_magnitude = words.iter().any(|&word| !is_zero(word));
+    (is_float && some_magnitude).then(|| float_planes(c, common_exponent(words)))
+}
+
 fn ours(p: &Params) -> windlassow::Params {
-    windlassow::Params::from_numbers(p.kind, p.dimension, p.mode, p.planes, p.width)
+    windlassow::Params::from_numbers(p.kind, p.dimension, p.mode, p.planes, p.width, p.lowest)
 }
 
 impl Comparison {
@@ -123,6 +132,9 @@ impl Comparison {
         let slot = (reply.answer == 0).then(|| bits_of(&archive, c.width));
         let class = self.class_of_writing(p, words, reply, slot.as_deref(), &theirs);
         let row = self.tally.row(p);
+        if let Some(planes) = planes_left(&c, words, reply) {
+            row.note_left(Call::Write, &c, planes);
+        }
         row.blocks += 1;
         row.codes_equal += u64::from(class.is_none());
         row.counts_equal += u64::from(reply.answer != 9 && reply.count as usize == theirs.len());
@@ -151,7 +163,7 @@ impl Comparison {
     fn check_limits(&mut self, p: &Params, c: &Checked, words: &[u32], code: &[bool]) {
         let width = c.width as u32;
         let limited = match c.mode {
-            Mode::Lossy => Setting::Lossy { least: width, most: width, planes: c.planes },
+            Mode::Lossy => Setting::Lossy { least: width, most: width, planes: c.planes, lowest: c.lowest },
             Mode::Exact => Setting::ReversibleWithin(width),
         };
         let bits = self.lib.encode(shape(c), limited, words);
@@ -213,6 +225,9 @@ impl Comparison {
             Mode::Exact => self.check_refusal(p, &c, slot, reply),
         }
         let row = self.tally.row(p);
+        if let Some(Head { e: Some(_), planes, .. }) = Head::of(&c, slot).filter(|_| c.mode == Mode::Lossy) {
+            row.note_left(Call::Read, &c, planes);
+        }
         row.slots[origin as usize] += 1;
         row.words_equal += u64::from(words.as_ref() == Some(&theirs));
         row.note(Call::Read, class);

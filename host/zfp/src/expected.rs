@@ -7,7 +7,7 @@ use crate::bits::padded;
 use crate::classes::{Head, cut_scan, scale_overflows, scale_underflows};
 use crate::libzfp::longest_code;
 use crate::order::{Orders, reordered};
-use reference::code::encode;
+use reference::code::{encode, float_planes};
 use reference::floats::{common_exponent, to_pattern};
 use reference::params::{Checked, Kind, Mode};
 use reference::words::flip;
@@ -68,14 +68,19 @@ fn written_whole(p: &Checked, words: &[u32]) -> Code {
 }
 
 /// A lossy block whose scale overflows: every value becomes an infinity, or a NaN if it is 0, before it is
-/// converted to an integer. The head is document 01's.
+/// converted to an integer. The head is document 01's, and so is the single 0 of a block of no planes.
 fn overflowed(p: &Checked, words: &[u32]) -> Code {
+    let e = common_exponent(words);
+    let planes = float_planes(p, e);
+    if planes == 0 {
+        return Code::Known(vec![false]);
+    }
     let mut code = vec![true];
-    code.extend(bits::number(common_exponent(words), 8));
+    code.extend(bits::number(e, 8));
     let Some(integer) = CONVERTED else {
         return Code::Begins(code);
     };
-    let integers = Checked { kind: Kind::Integers, width: p.width - code.len(), ..*p };
+    let integers = Checked { kind: Kind::Integers, planes, width: p.width - code.len(), ..*p };
     code.extend(encode(&integers, &vec![integer; words.len()]).bits);
     Code::Known(code)
 }

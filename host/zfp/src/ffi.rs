@@ -7,7 +7,7 @@
 mod blocks;
 mod stream;
 
-use crate::libzfp::{ROOM, Setting, Shape};
+use crate::libzfp::{MAX_BITS, ROOM, Setting, Shape};
 use blocks::{decode_block, encode_block};
 use reference::params::Kind;
 use std::ffi::{CStr, c_char, c_double, c_int, c_uint, c_void};
@@ -51,6 +51,7 @@ unsafe extern "C" {
         align: c_int,
     ) -> c_double;
     fn zfp_stream_set_precision(zfp: *mut ZfpStream, precision: c_uint) -> c_uint;
+    fn zfp_stream_set_accuracy(zfp: *mut ZfpStream, tolerance: c_double) -> c_double;
     fn zfp_stream_set_reversible(zfp: *mut ZfpStream);
 }
 
@@ -66,8 +67,6 @@ fn type_of(kind: Kind) -> c_int {
 const MIN_EXP: c_int = -1074;
 /// The header's `ZFP_MAX_PREC`.
 const MAX_PREC: c_uint = 64;
-/// The header's `ZFP_MAX_BITS`: no code has more.
-const MAX_BITS: c_uint = 16658;
 
 /// A stream over a buffer of its own.
 struct Session {
@@ -97,13 +96,18 @@ impl Session {
         // SAFETY: the stream is open, and these calls write to nothing else.
         let good = unsafe {
             match setting {
-                Setting::Lossy { least, most, planes } => {
-                    zfp_stream_set_params(self.zfp, least, most, planes, MIN_EXP) != 0
+                Setting::Lossy { least, most, planes, lowest } => {
+                    zfp_stream_set_params(self.zfp, least, most, planes, lowest) != 0
                 }
                 Setting::Rate(rate) => {
                     zfp_stream_set_rate(self.zfp, rate, type_of(shape.kind), shape.dimension, 0) == rate
                 }
                 Setting::Precision(planes) => zfp_stream_set_precision(self.zfp, planes) == planes,
+                Setting::Accuracy(tolerance) => {
+                    // What is set is the power of two that is not above it.
+                    let power = zfp_stream_set_accuracy(self.zfp, tolerance);
+                    power <= tolerance && tolerance < 2.0 * power
+                }
                 Setting::Reversible => {
                     zfp_stream_set_reversible(self.zfp);
                     true

@@ -13,6 +13,9 @@ pub fn longest_code(dimension: u32) -> usize {
     33 * 4usize.pow(dimension) + 14
 }
 
+/// The header's `ZFP_MAX_BITS`: no code has more.
+pub const MAX_BITS: u32 = 16_658;
+
 /// Said where libzfp is needed and missing.
 pub const MISSING: &str = "libzfp is not installed: apt-get install libzfp-dev";
 
@@ -35,7 +38,7 @@ impl Shape {
 /// How libzfp is told to code a block.
 #[derive(Clone, Copy, Debug)]
 pub enum Setting {
-    /// Expert mode: at least and at most so many bits, so many planes, no limit on exponents.
+    /// Expert mode: at least and at most so many bits, at most so many planes, a lowest exponent.
     Lossy {
         /// Zeros are written up to this many bits.
         least: u32,
@@ -43,11 +46,15 @@ pub enum Setting {
         most: u32,
         /// The planes.
         planes: u32,
+        /// The lowest exponent, which libzfp looks at for floats only.
+        lowest: i32,
     },
     /// Fixed-rate mode, so many bits a value.
     Rate(f64),
     /// Fixed-precision mode, so many planes.
     Precision(u32),
+    /// Fixed-accuracy mode, with this tolerance.
+    Accuracy(f64),
     /// Reversible mode.
     Reversible,
     /// Reversible mode cut after so many bits.
@@ -162,13 +169,18 @@ pub fn shape(p: &Checked) -> Shape {
     Shape { kind: p.kind, dimension: p.dimension }
 }
 
-/// The setting that stands for document 01's mode, P and W. In exact mode document 01 compares the whole code with
-/// W, so libzfp has no budget there.
+/// The setting that stands for document 01's mode, P and W and document 02's q. In exact mode document 01 compares the
+/// whole code with W, so libzfp has no budget there.
 pub fn setting(p: &Checked) -> Setting {
     match p.mode {
-        Mode::Lossy => Setting::Lossy { least: 1, most: p.width as u32, planes: p.planes },
+        Mode::Lossy => Setting::Lossy { least: 1, most: p.width as u32, planes: p.planes, lowest: p.lowest },
         Mode::Exact => Setting::Reversible,
     }
+}
+
+/// A lossy setting of at most so many planes with the parameters' q and no budget.
+pub fn unlimited(p: &Checked, planes: u32) -> Setting {
+    Setting::Lossy { least: 1, most: MAX_BITS, planes, lowest: p.lowest }
 }
 
 /// Parameters that are known to be good.

@@ -78,6 +78,19 @@ pub fn planes(tally: &Tally, call: Call) -> Vec<String> {
     [Kind::Integers, Kind::Floats].map(line).to_vec()
 }
 
+/// The blocks and slots of lossy floats with q above -300, by the planes that it left; a line for each dimension.
+pub fn lowest(tally: &Tally) -> Vec<String> {
+    let titles = ["dim.", "blocks: no planes", "fewer than P", "P", "slots: no planes", "fewer than P", "P"];
+    let mut lines = vec![line(&titles.map(String::from)), format!("|{}", "---:|".repeat(titles.len()))];
+    let rows = tally.rows().filter(|row| row.0 == Kind::Floats && row.1 == Mode::Lossy);
+    for (_, _, dimension, row) in rows {
+        let numbers = row.left.iter().flat_map(|left| [left.none, left.fewer, left.all]);
+        let numbers = std::iter::once(u64::from(dimension)).chain(numbers);
+        lines.push(line(&numbers.map(|number| number.to_string()).collect::<Vec<_>>()));
+    }
+    lines
+}
+
 /// Slots read by both.
 pub fn reading(tally: &Tally) -> Vec<String> {
     let titles = ["by both", "by ours", "by libzfp", "damaged", "made", "words equal"];

@@ -7,14 +7,27 @@ use crate::slots::{damage, headed_slot, random_slot, slot_of_e};
 use crate::tally::Origin;
 use random::Random;
 use reference::Params;
+use windlassow::{MAX_LOWEST, MIN_LOWEST};
 
 /// Every kind, mode and dimension.
 fn all_kinds() -> impl Iterator<Item = Params> {
-    (0..16).map(|k| Params { kind: k >> 3, mode: k >> 2 & 1, dimension: 1 + (k & 3), planes: 32, width: 0 })
+    (0..16).map(|k| Params {
+        kind: k >> 3,
+        mode: k >> 2 & 1,
+        dimension: 1 + (k & 3),
+        planes: 32,
+        width: 0,
+        lowest: MIN_LOWEST,
+    })
 }
 
 const FLOATS: u32 = 1;
 const LOSSY: u32 = 0;
+
+/// The kind and mode that look at q, in every dimension.
+fn lossy_floats() -> impl Iterator<Item = Params> {
+    all_kinds().filter(|p| p.kind == FLOATS && p.mode == LOSSY)
+}
 
 fn block_len(p: &Params) -> usize {
     4usize.pow(p.dimension)
@@ -57,6 +70,9 @@ pub fn run(lib: Libzfp, seed: u64, scale: usize) -> Comparison {
     run.damaged_slots();
     run.made_slots();
     run.every_e();
+    run.every_lowest();
+    run.lowest_around_every_exponent();
+    run.lowest_around_every_e();
     run.comparison
 }
 
@@ -173,6 +189,61 @@ impl Run {
                 for _ in 0..self.rounds(&p, 8) {
                     let width = any_width(&mut self.random, &p);
                     let p = Params { planes: any_planes(&mut self.random), width, ..p };
+                    let slot = slot_of_e(&mut self.random, &checked(&p), e);
+                    self.comparison.read(&p, &slot, Origin::Made);
+                }
+            }
+        }
+    }
+
+    /// A q with which so many planes or so end at it, if P allows them, for a block or slot of this m.
+    fn lowest_near(&mut self, p: &Params, m: i32) -> i32 {
+        let planes = self.random.word_below(39) as i32 - 3;
+        (m + 2 * (p.dimension as i32 + 1) - planes).clamp(MIN_LOWEST, MAX_LOWEST)
+    }
+
+    /// Blocks of lossy floats with every q, in the larger dimensions with some.
+    fn every_lowest(&mut self) {
+        for p in lossy_floats() {
+            let step = [1, 1, 5, 13][p.dimension as usize - 1];
+            let first = MIN_LOWEST + self.random.word_below(step) as i32;
+            for lowest in (first..=MAX_LOWEST).step_by(step as usize).chain([MIN_LOWEST, MAX_LOWEST]) {
+                for _ in 0..2 * self.scale {
+                    let width = any_width(&mut self.random, &p);
+                    let p = Params { planes: any_planes(&mut self.random), width, lowest, ..p };
+                    let words = any_block(&mut self.random, block_len(&p));
+                    self.comparison.block(&p, &words);
+                }
+            }
+        }
+    }
+
+    /// Floats of every largest exponent field with q around it, and their slots damaged.
+    fn lowest_around_every_exponent(&mut self) {
+        for p in lossy_floats() {
+            for field in 0..255 {
+                for _ in 0..self.rounds(&p, 10) {
+                    let (width, lowest) =
+                        (any_width(&mut self.random, &p), self.lowest_near(&p, field as i32 - 126));
+                    let p = Params { planes: any_planes(&mut self.random), width, lowest, ..p };
+                    let words = block_of_field(&mut self.random, block_len(&p), field);
+                    if let Some(mut slot) = self.comparison.block(&p, &words) {
+                        damage(&mut self.random, &mut slot);
+                        self.comparison.read(&p, &slot, Origin::Damaged);
+                    }
+                }
+            }
+        }
+    }
+
+    /// Slots of floats with every e and q around its exponent.
+    fn lowest_around_every_e(&mut self) {
+        for p in lossy_floats() {
+            for e in 0..256 {
+                for _ in 0..self.rounds(&p, 10) {
+                    let (width, lowest) =
+                        (any_width(&mut self.random, &p), self.lowest_near(&p, e as i32 - 127));
+                    let p = Params { planes: any_planes(&mut self.random), width, lowest, ..p };
                     let slot = slot_of_e(&mut self.random, &checked(&p), e);
                     self.comparison.read(&p, &slot, Origin::Made);
                 }

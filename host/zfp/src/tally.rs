@@ -2,7 +2,8 @@
 
 use crate::classes::{Call, Class};
 use reference::Params;
-use reference::params::{Kind, Mode};
+use reference::params::{Checked, Kind, Mode};
+use windlassow::MIN_LOWEST;
 
 /// Where a slot comes from.
 #[derive(Clone, Copy, Debug, PartialEq, Eq)]
@@ -31,6 +32,18 @@ pub struct Asked {
     pub equal: u64,
 }
 
+/// The planes of lossy floats with a lowest exponent q above -300: of how many blocks or slots it left none, fewer than P or
+/// all P.
+#[derive(Clone, Copy, Debug, Default, PartialEq, Eq)]
+pub struct Left {
+    /// None.
+    pub none: u64,
+    /// Some, but fewer than P.
+    pub fewer: u64,
+    /// P.
+    pub all: u64,
+}
+
 /// What was seen of one kind, mode and dimension.
 #[derive(Clone, Debug, Default)]
 pub struct Row {
@@ -42,6 +55,8 @@ pub struct Row {
     pub counts_equal: u64,
     /// Planes asked for, by the call.
     pub planes: [Asked; Call::ALL.len()],
+    /// Planes that q left, by the call.
+    pub left: [Left; Call::ALL.len()],
     /// Slots read by both, by their origin.
     pub slots: [u64; ORIGINS],
     /// Slots that both read as the same words.
@@ -55,6 +70,19 @@ impl Row {
         let asked = &mut self.planes[call as usize];
         asked.times += 1;
         asked.equal += u64::from(same);
+    }
+
+    /// Notes how many planes q left of lossy floats.
+    pub fn note_left(&mut self, call: Call, p: &Checked, planes: u32) {
+        if p.lowest == MIN_LOWEST {
+            return;
+        }
+        let left = &mut self.left[call as usize];
+        match planes {
+            0 => left.none += 1,
+            _ if planes < p.planes => left.fewer += 1,
+            _ => left.all += 1,
+        }
     }
 
     /// Notes the class of an outcome, if it is different.
@@ -102,6 +130,14 @@ impl Tally {
         let mut complaints = Vec::new();
         let every = || Call::ALL.into_iter().flat_map(|call| Class::ALL.map(|class| (call, class)));
         for (kind, mode, dimension, row) in self.rows() {
+            let takes_notice = kind == Kind::Floats && mode == Mode::Lossy;
+            for Left { none, fewer, all } in row.left {
+                if [none, fewer, all].iter().any(|&count| takes_notice != (count > 0)) {
+                    complaints.push(format!(
+                        "{kind:?}, {mode:?}, dimension {dimension}: of q {none}, {fewer} and {all}"
+                    ));
+                }
+            }
             for (call, class) in every() {
                 let count = row.count(call, class);
                 if class.is_stated(call, kind, mode, dimension) != (count > 0) {

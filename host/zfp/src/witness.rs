@@ -6,6 +6,7 @@ use crate::compare::Comparison;
 use crate::libzfp::checked;
 use crate::tally::Origin;
 use reference::Params;
+use windlassow::MIN_LOWEST;
 
 /// What is handed to both programs.
 #[derive(Clone, Copy, Debug)]
@@ -32,7 +33,7 @@ pub struct Witness {
 }
 
 const fn params(kind: u32, mode: u32, width: u32) -> Params {
-    Params { kind, dimension: 1, mode, planes: 32, width }
+    Params { kind, dimension: 1, mode, planes: 32, width, lowest: MIN_LOWEST }
 }
 
 const CUBE: Params = Params { dimension: 3, ..params(0, 1, 16) };

@@ -3,11 +3,12 @@
 use random::{Random, is_long};
 use reference::params::Mode;
 use reference::{Params, bits, planes};
+use testing::MIN_LOWEST;
 use zfp::bits::{bits_of, padded};
 use zfp::classes::{Call, Class};
 use zfp::compare::Comparison;
 use zfp::libzfp::{Libzfp, longest_code};
-use zfp::report::{orders, planes as planes_asked, reading, writing};
+use zfp::report::{lowest, orders, planes as planes_asked, reading, writing};
 use zfp::run::run;
 use zfp::tally::Origin;
 use zfp::witness::WITNESSES;
@@ -53,6 +54,7 @@ fn every_difference_has_a_class() {
     for call in Call::ALL {
         is_reported(&planes_asked(&comparison.tally, call));
     }
+    is_reported(&lowest(&comparison.tally));
     is_reported(&orders(&comparison.lib));
     if is_long() {
         is_explained(&run(lib(), 2, 40));
@@ -82,7 +84,14 @@ fn lossy_integers_above_libzfps_range() {
             // The two highest bits differ, so the magnitude of one word at least is 2^30 or more.
             words[0] = words[0] & 0xBFFF_FFFF | !words[0] >> 1 & 0x4000_0000;
             let planes = random.between(1, 32);
-            let p = Params { kind: 0, dimension, mode: 0, planes, width: random.between(16, 8462) };
+            let p = Params {
+                kind: 0,
+                dimension,
+                mode: 0,
+                planes,
+                width: random.between(16, 8462),
+                lowest: MIN_LOWEST,
+            };
             let class = comparison.write(&p, &words).class;
             assert!(class.is_none() || dimension > 2 && class == Some(Class::TieOrder), "{p:?}");
         }
@@ -100,7 +109,7 @@ fn the_scale_overflows_below_the_field_29() {
         for field in 0..255 {
             let words = vec![field << 23 | 0x0040_0000; 4usize.pow(dimension)];
             for mode in [0, 1] {
-                let p = Params { kind: 1, dimension, mode, planes: 32, width };
+                let p = Params { kind: 1, dimension, mode, planes: 32, width, lowest: MIN_LOWEST };
                 let class = comparison.write(&p, &words).class;
                 assert_eq!(class, (field < 29).then_some(Class::ScaleOverflow), "field {field}");
             }
@@ -122,9 +131,58 @@ fn the_scale_underflows_below_e_8() {
             let mut slot = vec![true];
             slot.extend(bits::number(e, 8));
             slot.extend(planes::code(&coefficients, 32));
-            let p = Params { kind: 1, dimension, mode: 0, planes: 32, width: width as u32 };
+            let p =
+                Params { kind: 1, dimension, mode: 0, planes: 32, width: width as u32, lowest: MIN_LOWEST };
             let read = comparison.read(&p, &padded(&slot, width), Origin::Made);
             assert_eq!(read.class, (e < 8).then_some(Class::ScaleUnderflow), "e = {e}");
+        }
+    }
+    none(&comparison.failures);
+}
+
+/// q by itself: equal floats, of which only the first coefficient is not 0, so that the order does not matter. With every number of
+/// planes down to q, and with P above and below it, both codes are the same and both read them alike.
+#[test]
+fn planes_down_to_a_lowest_exponent() {
+    let mut comparison = Comparison::new(lib());
+    for dimension in 1..=4 {
+        let width = longest_code(dimension) as u32;
+        let step = [1, 3, 11, 45][dimension as usize - 1];
+        for field in (29..255u32).step_by(step) {
+            let words = vec![field << 23 | 0x0055_5555; 4usize.pow(dimension)];
+            for to_lowest in -2..=34 {
+                let lowest = field as i32 - 126 + 2 * (dimension as i32 + 1) - to_lowest;
+                let planes = [1, 7, 20, 31, 32][field as usize % 5];
+                let p = Params { kind: 1, dimension, mode: 0, planes, width, lowest };
+                let written = comparison.write(&p, &words);
+                assert_eq!(written.class, None, "{p:?}");
+                assert_eq!(written.reply.planes, planes.min(to_lowest.max(0) as u32), "{p:?}");
+                let read = comparison.read(&p, &written.ours.expect("it is stored"), Origin::Both);
+                assert_eq!(read.class, None, "{p:?}");
+            }
+        }
+    }
+    none(&comparison.failures);
+}
+
+/// A first bit 1 whose e leaves no planes, and any bits after it: both read zeros, with every e and at both ends of what leaves none.
+#[test]
+fn slots_of_no_planes() {
+    let mut random = Random::new(9);
+    let mut comparison = Comparison::new(lib());
+    for dimension in 1..=4 {
+        for e in 0..256u32 {
+            let first = e as i32 - 127 + 2 * (dimension as i32 + 1);
+            for lowest in [first, first + 1, 300] {
+                let mut slot = vec![true];
+                slot.extend(bits::number(e, 8));
+                slot.extend((0..40).map(|_| random.once_in(2)));
+                let p = Params { kind: 1, dimension, mode: 0, planes: 32, width: 49, lowest };
+                let read = comparison.read(&p, &slot, Origin::Made);
+                let zeros = vec![0; 4usize.pow(dimension)];
+                assert_eq!((read.ours.as_ref(), &read.theirs), (Some(&zeros), &zeros), "{p:?}");
+                assert_eq!((read.reply.planes, read.taken), (0, 9), "{p:?}");
+            }
         }
     }
     none(&comparison.failures);
@@ -137,7 +195,14 @@ fn every_slot_of_16_bits() {
     let planes = if is_long() { (1..=32).collect() } else { vec![32] };
     for planes in planes {
         for k in 0..16 {
-            let p = Params { kind: k & 1, dimension: 1 + (k >> 1 & 3), mode: k >> 3, planes, width: 16 };
+            let p = Params {
+                kind: k & 1,
+                dimension: 1 + (k >> 1 & 3),
+                mode: k >> 3,
+                planes,
+                width: 16,
+                lowest: MIN_LOWEST,
+            };
             let step = [1, 1, 17, 151][p.dimension as usize - 1];
             for slot in (0..=u16::MAX).step_by(step) {
                 comparison.read(&p, &bits_of(&slot.to_le_bytes(), 16), Origin::Made);

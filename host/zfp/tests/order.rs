@@ -4,7 +4,7 @@ use random::{Random, rounds};
 use reference::transform::{from_coefficients, sums, unlift};
 use reference::words::{flip, to_negabinary};
 use reference::{Params, code};
-use testing::{EXACT, FLOATS, INTEGERS, LOSSY};
+use testing::{EXACT, FLOATS, INTEGERS, LOSSY, MIN_LOWEST};
 use zfp::bits::padded;
 use zfp::classes::scale_overflows;
 use zfp::compare::Comparison;
@@ -96,7 +96,14 @@ fn equal_coefficients_have_equal_codes() {
             for _ in 0..rounds(count) {
                 let longest = longest_code(dimension) as u32;
                 let width = if mode == EXACT { longest } else { random.between(16, longest) };
-                let p = Params { kind, dimension, mode, planes: random.between(1, 32), width };
+                let p = Params {
+                    kind,
+                    dimension,
+                    mode,
+                    planes: random.between(1, 32),
+                    width,
+                    lowest: MIN_LOWEST,
+                };
                 let c = checked(&p);
                 let coefficients: Vec<u32> =
                     values(&mut random, c.block_len()).into_iter().map(|v| to_negabinary(v as u32)).collect();

@@ -3,7 +3,7 @@
 use random::{Random, rounds};
 use reference::Params;
 use testing::by_hand::planes::all;
-use testing::{LOSSY, bits};
+use testing::{LOSSY, MIN_LOWEST, bits};
 use zfp::bits::padded;
 use zfp::classes::Call;
 use zfp::compare::Comparison;
@@ -26,7 +26,8 @@ fn blocks_by_hand() {
             let uncut = block.code(planes).len();
             for width in (16..=uncut).step_by(step).chain([uncut.max(16), uncut.max(15) + 1]) {
                 let (kind, dimension) = (block.kind, block.dimension);
-                let p = Params { kind, dimension, mode: LOSSY, planes, width: width as u32 };
+                let p =
+                    Params { kind, dimension, mode: LOSSY, planes, width: width as u32, lowest: MIN_LOWEST };
                 let asked = planes_within(&lib, &checked(&p), &block.words);
                 assert_eq!(asked, block.whole(planes, width), "{p:?}");
                 let code = &bits(&block.code(planes))[..uncut.min(width)];
@@ -47,7 +48,7 @@ fn a_block_at_every_budget() {
         for _ in 0..rounds(4) {
             let words = any_block(&mut random, 4usize.pow(dimension));
             for width in (16..=longest_code(dimension) as u32).step_by(step) {
-                let p = Params { kind, dimension, mode: LOSSY, planes: 32, width };
+                let p = Params { kind, dimension, mode: LOSSY, planes: 32, width, lowest: MIN_LOWEST };
                 comparison.block(&p, &words);
             }
         }

@@ -1,14 +1,15 @@
 //! Figures that the sources print, run with the proved library and with libzfp.
 //!
 //! Document 004 has an example of group testing. Document 002 has the largest sizes of blocks (its question 28), the
-//! precisions that lose nothing (21), a bound on the error (20), and how the modes stand for one another.
+//! precisions that lose nothing (21), a bound on the error (20), how the modes stand for one another, and what its
+//! fixed-accuracy mode promises.
 
 use random::{Random, rounds};
 use reference::floats::{common_exponent, to_integer};
 use reference::transform::{from_coefficients, lift, sums, to_coefficients, unlift};
 use reference::words::{from_negabinary, to_negabinary};
 use reference::{Params, bits};
-use testing::{EXACT, FLOATS, INTEGERS, LOSSY};
+use testing::{EXACT, FLOATS, INTEGERS, LOSSY, MIN_LOWEST};
 use zfp::bits::padded;
 use zfp::classes::Class;
 use zfp::compare::Comparison;
@@ -64,7 +65,8 @@ fn group_testing_of_document_004() {
             (0..16).map(|place| word(place) << (top - 2)).collect()
         };
         let planes = [&[true, true, false, first], &code[..], &below[..], &[false]].concat();
-        let p = Params { kind: INTEGERS, dimension: 2, mode: EXACT, planes: 32, width: 64 };
+        let p =
+            Params { kind: INTEGERS, dimension: 2, mode: EXACT, planes: 32, width: 64, lowest: MIN_LOWEST };
         let words = from_coefficients(&coefficients(31), 2, sums);
         assert_eq!(both_write(&p, &words, &[&bits::number(2, 5), &planes[..]].concat()), words);
         // Lossy, with 19 empty planes above and 10 below of 11 zeros and a test each.
@@ -89,7 +91,7 @@ fn largest_sizes_of_document_002() {
     for (kind, mode, sizes) in LARGEST {
         for (dimension, largest) in (1..).zip(sizes) {
             let mut comparison = comparison();
-            let p = Params { kind, dimension, mode, planes: 32, width: WIDEST };
+            let p = Params { kind, dimension, mode, planes: 32, width: WIDEST, lowest: MIN_LOWEST };
             let n = 4usize.pow(dimension);
             for _ in 0..rounds_in(dimension, 4_000) {
                 let written = comparison.write(&p, &any_block(&mut random, n));
@@ -126,7 +128,8 @@ fn precisions_that_lose_no_integer() {
         assert_eq!(most + 4 * dimension + 1, 32);
         for b in 1..=most {
             let planes = b + 4 * dimension + 1;
-            let p = Params { kind: INTEGERS, dimension, mode: LOSSY, planes, width: WIDEST };
+            let p =
+                Params { kind: INTEGERS, dimension, mode: LOSSY, planes, width: WIDEST, lowest: MIN_LOWEST };
             for _ in 0..rounds_in(dimension, 200) {
                 let small = random.word_below(b);
                 let mut word = || ((random.word() as i32 >> (32 - b + small)) << (31 - b)) as u32;
@@ -144,7 +147,7 @@ fn precisions_that_lose_no_integer() {
 fn the_precision_that_loses_no_float_of_one_exponent() {
     let mut random = Random::new(5);
     let mut comparison = comparison();
-    let p = Params { kind: FLOATS, dimension: 1, mode: LOSSY, planes: 30, width: 1024 };
+    let p = Params { kind: FLOATS, dimension: 1, mode: LOSSY, planes: 30, width: 1024, lowest: MIN_LOWEST };
     for field in 29..255 {
         for _ in 0..rounds(50) {
             let words: Vec<u32> = (0..4).map(|_| field << 23 | random.word() & 0x807F_FFFF).collect();
@@ -195,7 +198,8 @@ fn the_bound_on_the_error() {
     for (dimension, k) in [(1, 20.0), (2, 75.0), (3, 1125.0 / 4.0), (4, 16875.0 / 16.0)] {
         let blocks = rounds_in(dimension, 100);
         for planes in 1..=32 {
-            let p = Params { kind: FLOATS, dimension, mode: LOSSY, planes, width: WIDEST };
+            let p =
+                Params { kind: FLOATS, dimension, mode: LOSSY, planes, width: WIDEST, lowest: MIN_LOWEST };
             let mut wrapped = 0;
             for _ in 0..blocks {
                 let words = floats(&mut random, dimension);
@@ -232,7 +236,14 @@ fn fixed_rate_and_fixed_precision() {
             let words = any_block(&mut random, n);
             let rate = random.between(if dimension == 1 { 4 } else { 1 }, 32);
             let planes = random.between(1, 32);
-            let slots = Params { kind, dimension, mode: LOSSY, planes: 32, width: rate * n as u32 };
+            let slots = Params {
+                kind,
+                dimension,
+                mode: LOSSY,
+                planes: 32,
+                width: rate * n as u32,
+                lowest: MIN_LOWEST,
+            };
             let by_default = Params { width: 0, ..slots };
             let whole = Params { planes, width: WIDEST, ..slots };
             let cases = [
@@ -249,6 +260,57 @@ fn fixed_rate_and_fixed_precision() {
                 let width = checked(&p).width;
                 let theirs = comparison.lib.encode(shape(&checked(&p)), setting, &words);
                 assert_eq!(padded(&written.theirs, width), padded(&theirs, width), "{p:?} {words:x?}");
+            }
+        }
+    }
+    assert!(comparison.failures.is_empty());
+}
+
+/// Fixed accuracy is a lowest exponent, all planes and no budget: libzfp is handed the tolerance itself.
+#[test]
+fn fixed_accuracy() {
+    let mut random = Random::new(8);
+    let mut comparison = comparison();
+    for dimension in 1..=4 {
+        let n = 4usize.pow(dimension);
+        for _ in 0..rounds_in(dimension, 2_000) {
+            let words = any_block(&mut random, n);
+            // Powers of two and numbers between them: q is the largest with 2^q at most the tolerance.
+            let lowest = random.below(601) as i32 - 300;
+            let power = 2f64.powi(lowest);
+            let tolerance = if random.once_in(3) { power } else { power * (1.0 + random.part()) };
+            let width = 33 * n as u32 + 14;
+            let p = Params { kind: FLOATS, dimension, mode: LOSSY, planes: 32, width, lowest };
+            let written = comparison.write(&p, &words);
+            if written.class != Some(Class::NotFinite) {
+                let theirs = comparison.lib.encode(shape(&checked(&p)), Setting::Accuracy(tolerance), &words);
+                assert_eq!(written.theirs, theirs, "{tolerance:e} {p:?} {words:x?}");
+            }
+        }
+    }
+    assert!(comparison.failures.is_empty());
+}
+
+/// Document 002 says of fixed accuracy that values come back off by at most 2^q, but not below the precision of the largest value
+/// of a block. Where at most 32 planes end at q, no block tested is further off, with either program, if a value of it is 2^(q - 1) or
+/// more. Where all are smaller, sums can wrap around, in both programs alike, and values be off by nearly 1.5 x 2^q.
+#[test]
+fn the_tolerance_of_fixed_accuracy() {
+    let mut random = Random::new(9);
+    let mut comparison = comparison();
+    for dimension in 1..=4 {
+        for planes in 0..=32 {
+            for _ in 0..rounds_in(dimension, 60) {
+                let words = floats(&mut random, dimension);
+                let m = common_exponent(&words) as i32 - 127;
+                let lowest = m + 2 * (dimension as i32 + 1) - planes;
+                let p = Params { kind: FLOATS, dimension, mode: LOSSY, planes: 32, width: WIDEST, lowest };
+                let most = if m < lowest { 1.5 } else { 1.0 };
+                let back = stored_and_read(&mut comparison, &p, &words);
+                for (&word, back) in words.iter().zip(back) {
+                    let error = f64::from(f32::from_bits(word)) - f64::from(f32::from_bits(back));
+                    assert!(error.abs() <= most * 2f64.powi(lowest), "{p:?} {words:x?}: {error}");
+                }
             }
         }
     }

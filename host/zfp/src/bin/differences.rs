@@ -8,7 +8,7 @@ use std::process::ExitCode;
 use zfp::classes::Call;
 use zfp::compare::Comparison;
 use zfp::libzfp::Libzfp;
-use zfp::report::{orders, planes, reading, writing};
+use zfp::report::{lowest, orders, planes, reading, writing};
 use zfp::run::run;
 use zfp::witness::WITNESSES;
 
@@ -42,6 +42,10 @@ fn report(lib: Libzfp, scale: usize, seed: u64) -> ExitCode {
         let lines = planes(&comparison.tally, call).join("\n");
         println!("\nLossy {what} whose planes are libzfp's, in dimensions 1 to 4:\n\n{lines}");
     }
+    println!(
+        "\nLossy floats with q above -300, by the planes left:\n\n{}",
+        lowest(&comparison.tally).join("\n")
+    );
     println!("\nExamples:\n");
     let mut failures = comparison.tally.complaints();
     failures.append(&mut comparison.failures);

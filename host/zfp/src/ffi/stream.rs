@@ -31,7 +31,7 @@ impl Stream {
         };
         assert!(!bits.is_null() && !zfp.is_null(), "libzfp has no memory");
         let (planes, exponent) = match params.mode {
-            Mode::Lossy => (params.planes, MIN_EXP),
+            Mode::Lossy => (params.planes, params.lowest),
             Mode::Exact => (MAX_PREC, MIN_EXP - 1),
         };
         let width = params.width as u32;
