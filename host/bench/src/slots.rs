@@ -3,13 +3,16 @@
 use crate::data::{DIMENSIONS, Data, blocks, blocks_in_archive};
 use crate::timing::{Times, Work, measure, spread};
 use std::hint::black_box;
-use windlassow::{Dimension, Kind, Mode, Params};
+use windlassow::{Dimension, Kind, MIN_LOWEST, Mode, Params};
 use zfp::bits::{bytes_of, padded};
 use zfp::expected::{Code, written};
 use zfp::libzfp::{Libzfp, Stream, checked};
 
-/// P of the lossy blocks: the width alone cuts them.
+/// P of the lossy blocks: the width alone cuts them, or the lowest exponent.
 const PLANES: u32 = 32;
+
+/// The lowest exponent of half a tenth of a degree.
+const HALF_A_TENTH: i32 = -5;
 
 /// One line of the table: parameters and blocks.
 struct Case {
@@ -17,6 +20,7 @@ struct Case {
     dimension: Dimension,
     mode: Mode,
     width: u32,
+    lowest: i32,
     words: Vec<u32>,
 }
 
@@ -31,11 +35,19 @@ impl Case {
             (Mode::Lossy, _, _) => 8 * n,
         };
         let words = blocks(kind, dimension, data, blocks_in_archive(width as usize));
-        Case { kind, dimension, mode, width, words }
+        Case { kind, dimension, mode, width, lowest: MIN_LOWEST, words }
+    }
+
+    /// Smooth lossy floats down to a lowest exponent, in slots that cut nothing.
+    fn within(dimension: Dimension, lowest: i32) -> Case {
+        let (kind, mode) = (Kind::Floats, Mode::Lossy);
+        let width = 33 * dimension.block_len() as u32 + 14;
+        let words = blocks(kind, dimension, Data::Smooth, blocks_in_archive(width as usize));
+        Case { kind, dimension, mode, width, lowest, words }
     }
 
     fn params(&self) -> Params {
-        Params::new(self.kind, self.dimension, self.mode, PLANES, self.width)
+        Params::new(self.kind, self.dimension, self.mode, PLANES, self.width).with_lowest(self.lowest)
     }
 
     fn reference_params(&self) -> reference::Params {
@@ -45,6 +57,7 @@ impl Case {
             mode: self.mode as u32,
             planes: PLANES,
             width: self.width,
+            lowest: self.lowest,
         }
     }
 
@@ -161,7 +174,8 @@ fn row(name: &str, times: &Times) {
 pub fn table(lib: Option<&Libzfp>) {
     println!("Blocks, nanoseconds a block, 256 blocks in an archive, or as many as 65,536 bytes take");
     println!(
-        "  exact: slots of 33N + 4 or 33N + 14 bits; lossy: P = 32, 16 bits a value (4 words), 8 (more words)"
+        "  exact: slots of 33N + 4 or 33N + 14 bits; lossy: P = 32, 16 bits a value (4 words), 8 (more words);\n  \
+         down to 2^-5: lossy floats, q = -5, 33N + 14 bits"
     );
     println!(
         "{:<37} {:>7} {:>7} {:>7}   {:<22} proved/libzfp",
@@ -174,11 +188,19 @@ pub fn table(lib: Option<&Libzfp>) {
                     let case = Case::new(kind, dimension, mode, data);
                     let name =
                         format!("{mode:?} {kind:?} {:>3} words {}", dimension.block_len(), data.name());
-                    row(&format!("{} store", name.to_lowercase()), &case.time_store(lib));
-                    row(&format!("{} read", name.to_lowercase()), &case.time_read(lib));
+                    rows(&name.to_lowercase(), &case, lib);
                 }
             }
         }
     }
+    for dimension in DIMENSIONS {
+        let name = format!("down to 2^-5   {:>3} words smooth", dimension.block_len());
+        rows(&name, &Case::within(dimension, HALF_A_TENTH), lib);
+    }
     println!();
+}
+
+fn rows(name: &str, case: &Case, lib: Option<&Libzfp>) {
+    row(&format!("{name} store"), &case.time_store(lib));
+    row(&format!("{name} read"), &case.time_read(lib));
 }

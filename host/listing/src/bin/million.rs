@@ -38,7 +38,7 @@ impl Drop for Files {
 fn write_input(files: &Files, dimension: usize, blocks: usize, is_smooth: bool) -> io::Result<()> {
     let words = 4usize.pow(dimension as u32);
     let mut out = BufWriter::new(File::create(&files.input)?);
-    writeln!(out, "00{dimension:02x}0120{:04x}", 33 * words + 4)?;
+    writeln!(out, "00{dimension:02x}0120{:04x}0000", 33 * words + 4)?;
     let mut random = Random::new(dimension as u64);
     let mut reading = 2_000i32;
     for _ in 0..blocks {

@@ -1,6 +1,6 @@
 //! Standard input and output that are no pipes, and such as cannot be read or written.
 
-use crate::make::{First, good_line, input};
+use crate::make::{ALL_EXPONENTS, First, good_line, input};
 use crate::run::{Temporary, command, compare_from_file, through_pipe};
 use listing::{program, wait_for};
 use random::Random;
@@ -50,7 +50,7 @@ fn complaint(line: &str, input: &[u8]) -> String {
 
 /// Short enough to be written at once, and far longer than any buffer.
 fn inputs() -> [Vec<u8>; 3] {
-    let first = First { kind: 0, dimension: 2, mode: 1, planes: 32, width: 1024 };
+    let first = First { kind: 0, dimension: 2, mode: 1, planes: 32, width: 1024, lowest: ALL_EXPONENTS };
     let line = good_line(&mut Random::new(14), first);
     [b"bad\n".to_vec(), [first.line(), line.clone()].concat(), [first.line(), line.repeat(20_000)].concat()]
 }
@@ -102,6 +102,6 @@ fn a_closed_input_is_complained_of() {
 /// An input of a bad first line and a hundred megabytes gets its answer, whether the program reads on or not.
 #[test]
 fn a_bad_first_line_before_much_more() {
-    let input = [&b"000101200031\r\n"[..], &vec![b'0'; 100 << 20]].concat();
+    let input = [&b"0001012000310000\r\n"[..], &vec![b'0'; 100 << 20]].concat();
     assert_eq!(through_pipe(&input).stdout, b"0c000000\n");
 }

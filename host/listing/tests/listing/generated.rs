@@ -1,6 +1,6 @@
 //! Generated inputs: valid and damaged lines of every kind, mode and dimension.
 
-use crate::make::{First, WIDTHS, any_line, good_line, input, line_of};
+use crate::make::{ALL_EXPONENTS, First, WIDTHS, any_line, good_line, input, line_of};
 use crate::run::compare;
 use random::{Random, is_long};
 use std::ops::Range;
@@ -31,14 +31,14 @@ fn generated(seeds: Range<u64>, most: usize) -> Answers {
 fn short_inputs_of_all_sorts() {
     let count = if is_long() { 60_000 } else { 2_500 };
     let answers = generated(1..1 + count, 8);
-    answers.must_include(&[0, 1, 2, 3, 4, 5, 9, 10, 12]);
+    answers.must_include(&[0, 1, 2, 3, 4, 5, 9, 10, 12, 13]);
 }
 
 #[test]
 fn inputs_of_all_sorts() {
     let count = if is_long() { 20_000 } else { 800 };
     let answers = generated(1_000_000..1_000_000 + count, 100);
-    answers.must_include(&[0, 1, 2, 3, 4, 5, 9, 10, 12]);
+    answers.must_include(&[0, 1, 2, 3, 4, 5, 9, 10, 12, 13]);
 }
 
 /// Every kind, mode and dimension at every width of the table. Of lossy blocks every number of
@@ -77,7 +77,7 @@ fn every_kind_mode_dimension_and_width() {
 fn every_byte_at_every_place_of_a_line() {
     let mut random = Random::new(3);
     for (dimension, step) in [(1, 1), (2, 1), (3, 16), (4, 256)] {
-        let first = First { kind: 0, dimension, mode: 1, planes: 32, width: 0x30 };
+        let first = First { kind: 0, dimension, mode: 1, planes: 32, width: 0x30, lowest: ALL_EXPONENTS };
         let mut input = first.line();
         for byte in 0..=255 {
             let mut line = line_of(&vec![random.word() >> 28; first.block_len()]);
@@ -95,7 +95,7 @@ fn every_byte_at_every_place_of_a_line() {
 #[test]
 fn every_length_of_a_line() {
     for dimension in 1..=4 {
-        let first = First { kind: 1, dimension, mode: 1, planes: 32, width: 8_462 };
+        let first = First { kind: 1, dimension, mode: 1, planes: 32, width: 8_462, lowest: ALL_EXPONENTS };
         let mut input = first.line();
         for length in 0..=2_100 {
             input.extend(vec![b'3'; length]);

@@ -1,6 +1,6 @@
 //! Many lines, and lines far longer than any that is well formed.
 
-use crate::make::{First, any_line, good_line};
+use crate::make::{ALL_EXPONENTS, First, any_line, good_line};
 use crate::run::{command, compare, compare_from_file};
 use listing::wait_for;
 use random::{Random, is_long};
@@ -13,7 +13,7 @@ const MEGABYTE: usize = 1 << 20;
 #[test]
 fn a_hundred_thousand_lines() {
     let mut random = Random::new(10);
-    let first = First { kind: 0, dimension: 1, mode: 1, planes: 32, width: 131 };
+    let first = First { kind: 0, dimension: 1, mode: 1, planes: 32, width: 131, lowest: ALL_EXPONENTS };
     let mut input = first.line();
     (0..100_000).for_each(|_| input.extend(any_line(&mut random, first)));
     compare(&input);
@@ -57,7 +57,7 @@ fn lines_of_a_megabyte() {
 #[test]
 fn lengths_that_a_short_counter_would_take_for_good_ones() {
     for dimension in 1..=4 {
-        let first = First { kind: 0, dimension, mode: 1, planes: 32, width: 1024 };
+        let first = First { kind: 0, dimension, mode: 1, planes: 32, width: 1024, lowest: ALL_EXPONENTS };
         let digits = 8 * first.block_len();
         for more in [256, 512, 2_048, 4_096, 65_536, 131_072] {
             for off in 0..3 {
@@ -65,7 +65,7 @@ fn lengths_that_a_short_counter_would_take_for_good_ones() {
                 compare(&[&first.line()[..], &long, &vec![b'1'; digits], b"\n"].concat());
             }
             let mut line = first.line();
-            line.splice(12..12, vec![b'0'; more]);
+            line.splice(16..16, vec![b'0'; more]);
             compare(&[&line[..], &vec![b'1'; digits], b"\n"].concat());
             line.splice(0..0, vec![b'0'; more]);
             compare(&[&line[..], &vec![b'1'; digits], b"\n"].concat());
@@ -80,7 +80,7 @@ fn lengths_that_a_short_counter_would_take_for_good_ones() {
 fn a_length_that_a_counter_of_32_bits_would_take_for_a_good_one() {
     let mut child = command().stdin(Stdio::piped()).spawn().unwrap();
     let mut pipe = child.stdin.take().unwrap();
-    pipe.write_all(b"000101200030\n").unwrap();
+    pipe.write_all(b"0001012000300000\n").unwrap();
     let megabyte = vec![b'0'; MEGABYTE];
     (0..4096).for_each(|_| pipe.write_all(&megabyte).unwrap());
     pipe.write_all(&[b'0'; 32]).unwrap();

@@ -10,7 +10,13 @@ pub struct First {
     pub mode: u32,
     pub planes: u32,
     pub width: u32,
+    /// q + 300.
+    pub lowest: u32,
 }
+
+/// The first line's last number with which all planes are kept, q = -300, and the largest, q = 300.
+pub const ALL_EXPONENTS: u32 = 0;
+pub const MOST: u32 = 600;
 
 /// Widths with all sorts of spare bits, those that every exact block fits and those just below.
 pub const WIDTHS: [u32; 26] = [
@@ -31,6 +37,12 @@ impl First {
                 2 => random.between(16, 1_024),
                 _ => random.between(16, 8_462),
             },
+            // Words of most characters have exponents around 0, and so 32 planes or none end at a q near it.
+            lowest: match random.below(3) {
+                0 => ALL_EXPONENTS,
+                1 => random.between(260, 340),
+                _ => random.between(0, MOST),
+            },
         }
     }
 
@@ -38,11 +50,12 @@ impl First {
     pub fn odd(random: &mut Random) -> First {
         let mut first = First::good(random);
         for _ in 0..1 + random.below(2) {
-            match random.below(5) {
+            match random.below(6) {
                 0 => first.kind = random.pick(&[2, 3, 0x10, 0xff]),
                 1 => first.dimension = random.pick(&[0, 5, 6, 0x11, 0xff]),
                 2 => first.mode = random.pick(&[2, 3, 0x80, 0xff]),
                 3 => first.planes = random.pick(&[0, 33, 64, 0xff]),
+                4 => first.lowest = random.pick(&[601, 602, 900, 0x7fff, 0x8000, 0xffff]),
                 _ => first.width = random.pick(&[1, 15, 8463, 0x4000, 0xffff]),
             }
         }
@@ -51,8 +64,8 @@ impl First {
 
     /// The line, with its newline.
     pub fn line(self) -> Vec<u8> {
-        let First { kind, dimension, mode, planes, width } = self;
-        format!("{kind:02x}{dimension:02x}{mode:02x}{planes:02x}{width:04x}\n").into_bytes()
+        let First { kind, dimension, mode, planes, width, lowest } = self;
+        format!("{kind:02x}{dimension:02x}{mode:02x}{planes:02x}{width:04x}{lowest:04x}\n").into_bytes()
     }
 
     /// The words of a block; 4 where the dimension is none.

@@ -21,7 +21,7 @@ fn peak_over(dimension: u32, megabytes: usize, piece: &[u8]) -> (u64, String) {
         out.read_to_end(&mut output).unwrap();
         String::from_utf8(output.split_off(output.len().saturating_sub(64))).unwrap()
     });
-    writeln!(pipe, "000{dimension}01200030").unwrap();
+    writeln!(pipe, "000{dimension}012000300000").unwrap();
     let many = piece.repeat(MEGABYTE / piece.len());
     (0..megabytes).for_each(|_| pipe.write_all(&many).expect("the program reads to the end"));
     // All but what a pipe holds has been read, and the program waits for more.

@@ -12,18 +12,18 @@ fn sample(name: &str) -> (String, String) {
 
 #[test]
 fn the_samples_list_as_they_should() {
-    for name in ["blocks", "floats", "squares", "cubes", "stacks"] {
+    for name in ["blocks", "floats", "squares", "cubes", "stacks", "tolerance"] {
         let (input, output) = sample(name);
         assert_eq!(String::from_utf8(reference::listing(input.as_bytes())).unwrap(), output, "the reference");
         assert_eq!(String::from_utf8(through_pipe(input.as_bytes()).stdout).unwrap(), output, "{name}");
     }
 }
 
-/// The first lines of samples/blocks.txt are document 01's example.
+/// The first lines of samples/blocks.txt are document 01's example, as document 02 has it.
 #[test]
 fn document_01s_example_comes_first() {
     let (input, output) = sample("blocks");
-    let example = "000101200030\n00000001000000010000000100000001\naaaaaaab55555556aaaaaaac55555558\n";
+    let example = "0001012000300000\n00000001000000010000000100000001\naaaaaaab55555556aaaaaaac55555558\n";
     assert!(input.starts_with(example));
     assert!(output.starts_with("000027201f0000003000\n0a008800\n"));
 }
@@ -52,6 +52,25 @@ fn equal_readings_of_a_cube_and_of_a_stack() {
         // 10 01000001 10100 0 110 10 00 00 10, 27 bits, the lowest bit of each byte first.
         assert_eq!(output.lines().next(), Some(&*format!("00001b0609160b02{}", "00".repeat(bytes - 4))));
     }
+}
+
+/// samples/tolerance.txt has q = -5, half a tenth of a degree: -5 + 300 = 0x127. In dimension 1 a block has m + 9 planes.
+#[test]
+fn a_tolerance_of_half_a_tenth_of_a_degree() {
+    let (input, output) = sample("tolerance");
+    assert!(input.starts_with("0101002000920127\n"));
+    let lines: Vec<_> = input.lines().skip(1).zip(output.lines()).collect();
+    // 4.5: e is 130, m is 3, so 12 planes. The head, 0, 110 and ten planes of two bits: 33 bits.
+    assert_eq!(lines[1], (&*"40900000".repeat(4), &*format!("0000210c052d08{}", "0".repeat(32))));
+    // 15.625 to 15.71875: m is 4, so 13 planes. They are written out in `testing::by_hand::planes::degrees`: 39 bits.
+    assert!(lines[2].0.starts_with("417a0000417a8000") && lines[2].1.starts_with("0000270d"));
+    // From -0.001 to 0.0019: below 2^-9, so no planes, and a single 0 as of zeros.
+    assert!(lines[4].0.starts_with("3a03126fba83126f"));
+    assert_eq!([lines[3].1, lines[4].1], [&*format!("00000100{}", "0".repeat(38)); 2]);
+    // 0.002: below 2^-8, so one plane, which is empty. e is 119.
+    assert_eq!(lines[5], (&*"3b03126f".repeat(4), &*format!("00000a01ef{}", "0".repeat(36))));
+    // 2^24: m is 25, and P is smaller than 34.
+    assert!(lines[8].0.starts_with("4b800000") && lines[8].1[6..].starts_with("20"));
 }
 
 /// The picture of README.md: fields of the input and of the output stand in one column, what they mean in another.
