@@ -105,7 +105,7 @@ module _ (p : Params) (ws : List ℕ) (u : Uncut p ws) where
 
 lowest-weight : LowestWeight
 unfolding planesAt
-lowest-weight d p lowest e few some less = omega arith
+lowest-weight d p lowest e few within some = omega arith
 
 -- ---- the digits that are left out
 

@@ -61,10 +61,11 @@ pub record AsBefore (p : Params) : Type 0 where
 abbrev pub LeastIsBefore : Type 0
 LeastIsBefore = (p : Params) → 1 ≤ p .planes → p .planes ≤ 32 → p .lowest ≡ 0 → AsBefore p
 
--- "other kinds and modes ignore a good q": their codes and readings any q, and the calls' whole outcomes a good one
+-- the same parameters with q = -300
 abbrev pub least : Params → Params
 least p = record { kind = p .kind; dimension = p .dimension; mode = p .mode; planes = p .planes; width = p .width; lowest = 0 }
 
+-- "other kinds and modes ignore a good q": their codes and readings any q, and the calls' whole outcomes a good one
 abbrev pub OthersIgnore : Type 0
 OthersIgnore =
     (p : Params) → lossyFloat p ≡ false

@@ -45,12 +45,13 @@ KeptPlanes =
     let cs = coefficients 32 false (p .dimension) (map (toInteger binary32 e) ws) in
     wordsOf p (padded (widthOf p) (codeOf p ws)) ≡ map (toPattern binary32 e) (values 32 false (p .dimension) (map (kept (codedPlanes p ws)) cs))
 
--- the lowest of k planes, 32 - k, weighs 2^(q - 2 x dimension), since an integer counts 2^(m - 30): 32 - k + m - 30 = q - 2 x dimension
+-- the lowest of k planes, 32 - k, weighs 2^(q - 2 x dimension), since an integer counts 2^(m - 30): 32 - k + m - 30 = q - 2 x dimension. That is where P
+-- leaves no more out than q does
 abbrev pub LowestWeight : Type 0
 LowestWeight =
-    (d p lowest e : ℕ) → p ≤ 32
+    (d p lowest e : ℕ) → p ≤ 32 → e + 175 + 2 * d - lowest ≤ p
     → let k = planesAt binary32 d p lowest e in
-    1 ≤ k → k < p → 32 - k + e + 300 + 2 * d ≡ lowest + 127 + 30
+    1 ≤ k → 32 - k + e + 300 + 2 * d ≡ lowest + 127 + 30
 
 -- and what the planes below it take from a coefficient, or add to it, is at most 2/3 of that: modulo 2^32 the coefficient is the kept one with x - y more
 abbrev pub DroppedDigits : Type 0
