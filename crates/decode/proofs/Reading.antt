@@ -13,8 +13,8 @@ use Rattle.plane_reader.proofs.Reading.{slice-here}
 use Rattle.floats.specs.Pattern.{wordSize, fieldBits}
 use Rattle.codec.specs.Calls.Padded.{paddedMultiples, paddedFlipped, paddedFloats}
 use Rattle.codec.specs.Read.{readIntegers, scaledBy, readExactFloats, readLossyFloats, readCode}
-use Rattle.codec.specs.Depth.{wholeCoefficients, wholeLossyFloats, wholeExactFloats}
-use Rattle.codec.specs.Lowest.{planesHeaded}
+use Rattle.codec.specs.Depth.{wholeCoefficients, wholeLossyFloats, wholeExactFloats, wholeRead}
+use Rattle.codec.specs.Calls.{scaledTo, wholeScaled, readTo, wholeTo}
 
 -- a block of integers, by mode
 pub integers-read : {ws : List ℕ} (f : Format) (exact : Bool) (d p : ℕ) (s : List Bool) → ws ≡ readIntegers f exact d p s → ws ≡ readCode f false exact d p s
@@ -33,19 +33,15 @@ module _ (f : Format) (dim p : ℕ) (d : List Bool) (at end : ℕ) (b : Bool) (f
 
   -- what reading them in lossy mode gives, with a lowest exponent
   abbrev LossyRead : ℕ → List ℕ → ℕ → Type 0
-  LossyRead lowest ws n =
-      let k = planesHeaded f dim p lowest (drop 1 (slice at end d)) in
-      (ws ≡ readLossyFloats f dim k (slice at end d)) × (n ≡ wholeLossyFloats f dim k (slice at end d))
+  LossyRead lowest ws n = (ws ≡ readTo f true false dim p lowest (slice at end d)) × (n ≡ wholeTo f true false dim p lowest (slice at end d))
 
   pub lossy-zero : {ws : List ℕ} (lowest : ℕ) → at < end → b ≡ false → ws ≡ replicate (4 ^ dim) 0 → LossyRead lowest ws 0
-  unfolding readLossyFloats wholeLossyFloats
+  unfolding readCode readLossyFloats wholeRead wholeLossyFloats
   lossy-zero lowest h e w = rw (one h, e) (w, refl)
 
   pub lossy-some : {ws : List ℕ} {n : ℕ} (lowest : ℕ) → at < end → b ≡ true
-      → ws ≡ scaledBy f (readIntegers f false dim (planesHeaded f dim p lowest (later 1))) (later 1)
-      → n ≡ wholeCoefficients f false (4 ^ dim) (planesHeaded f dim p lowest (later 1)) (drop (fieldBits f) (later 1))
-      → LossyRead lowest ws n
-  unfolding readLossyFloats wholeLossyFloats
+      → ws ≡ scaledTo f dim p lowest (later 1) → n ≡ wholeScaled f dim p lowest (later 1) → LossyRead lowest ws n
+  unfolding readCode readLossyFloats wholeRead wholeLossyFloats
   lossy-some lowest h e w k = rw (one h, e) (w, k)
 
   -- what reading float patterns in exact mode gives

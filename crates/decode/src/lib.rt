@@ -11,11 +11,10 @@ ghost use Rattle.words.specs.Word.{flip};
 ghost use Rattle.words.specs.Calls.{Size};
 ghost use Rattle.floats.specs.Pattern.{wordSize, fieldBits};
 ghost use Rattle.floats.specs.Calls.{formatOf};
-ghost use Rattle.codec.specs.Calls.{Shape, Range};
+ghost use Rattle.codec.specs.Calls.{Shape, Range, scaledTo, wholeScaled, readTo, wholeTo};
 ghost use Rattle.codec.specs.Head.{countBits};
-ghost use Rattle.codec.specs.Read.{readCoefficients, readIntegers, scaledBy, readExactFloats, readLossyFloats, readCode};
-ghost use Rattle.codec.specs.Depth.{wholeCoefficients, wholeLossyFloats, wholeExactFloats, wholeRead};
-ghost use Rattle.codec.specs.Lowest.{planesHeaded, planesRead};
+ghost use Rattle.codec.specs.Read.{readCoefficients, readIntegers, scaledBy, readExactFloats};
+ghost use Rattle.codec.specs.Depth.{wholeCoefficients, wholeExactFloats};
 ghost use Rattle.codec.specs.Calls.Padded.{paddedPlanes, paddedMultiples, paddedFlipped, paddedFloats, paddedBlock};
 use codec::change::Change;
 use codec::change::change_all;
@@ -184,10 +183,8 @@ fn read_lossy_floats(
 ) -> u32
     requires { ⌜ Shape size d p (length (now words)) × (length (now cs) ≡ 4 ^ d)
         × Range at (1 + fieldBits (formatOf size) + countBits (formatOf size)) end (length (now buf)) ⌝ }
-    ensures { λ r. ⌜ (now (words .exit) ≡ readLossyFloats (formatOf size) d
-        (planesHeaded (formatOf size) d p lowest (drop 1 (slice at end (bitsOf (now (buf .entry)))))) (slice at end (bitsOf (now (buf .entry)))))
-        × (r ≡ wholeLossyFloats (formatOf size) d
-        (planesHeaded (formatOf size) d p lowest (drop 1 (slice at end (bitsOf (now (buf .entry)))))) (slice at end (bitsOf (now (buf .entry))))) ⌝ }
+    ensures { λ r. ⌜ (now (words .exit) ≡ readTo (formatOf size) true false d p lowest (slice at end (bitsOf (now (buf .entry)))))
+        × (r ≡ wholeTo (formatOf size) true false d p lowest (slice at end (bitsOf (now (buf .entry))))) ⌝ }
 {
     if bits::get(buf, at) {
         read_scaled(size, d, p, lowest, buf, at + 1, end, cs, words)
@@ -211,10 +208,8 @@ fn read_scaled(
 ) -> u32
     requires { ⌜ Shape size d p (length (now words)) × (length (now cs) ≡ 4 ^ d)
         × Range at (fieldBits (formatOf size) + countBits (formatOf size)) end (length (now buf)) ⌝ }
-    ensures { λ r. ⌜ (now (words .exit) ≡ scaledBy (formatOf size) (readIntegers (formatOf size) false d
-        (planesHeaded (formatOf size) d p lowest (slice at end (bitsOf (now (buf .entry)))))) (slice at end (bitsOf (now (buf .entry)))))
-        × (r ≡ wholeCoefficients (formatOf size) false (4 ^ d) (planesHeaded (formatOf size) d p lowest (slice at end (bitsOf (now (buf .entry)))))
-        (drop (fieldBits (formatOf size)) (slice at end (bitsOf (now (buf .entry)))))) ⌝ }
+    ensures { λ r. ⌜ (now (words .exit) ≡ scaledTo (formatOf size) d p lowest (slice at end (bitsOf (now (buf .entry)))))
+        × (r ≡ wholeScaled (formatOf size) d p lowest (slice at end (bitsOf (now (buf .entry))))) ⌝ }
 {
     let head = field_bits(size);
     let e = bits::get_number(buf, at, head);
@@ -241,11 +236,9 @@ pub fn read_block(
 ) -> BlockRead
     requires { ⌜ Shape size d p (length (now words)) × (length (now cs) ≡ 4 ^ d)
         × Range at (2 + fieldBits (formatOf size) + countBits (formatOf size)) end (length (now buf)) ⌝ }
-    ensures { λ r. ⌜ (now (words .exit) ≡ readCode (formatOf size) float exact d
-        (planesRead (formatOf size) float exact d p lowest (slice at end (bitsOf (now (buf .entry))))) (slice at end (bitsOf (now (buf .entry)))))
+    ensures { λ r. ⌜ (now (words .exit) ≡ readTo (formatOf size) float exact d p lowest (slice at end (bitsOf (now (buf .entry)))))
         × (r .padded ≡ (not exact || paddedBlock (formatOf size) float d p (slice at end (bitsOf (now (buf .entry))))))
-        × (r .whole ≡ wholeRead (formatOf size) float exact d
-        (planesRead (formatOf size) float exact d p lowest (slice at end (bitsOf (now (buf .entry))))) (slice at end (bitsOf (now (buf .entry))))) ⌝ }
+        × (r .whole ≡ wholeTo (formatOf size) float exact d p lowest (slice at end (bitsOf (now (buf .entry))))) ⌝ }
 {
     if !float {
         return read_integers(size, exact, d, p, buf, at, end, cs, words);

@@ -19,7 +19,7 @@ use Rattle.float_blocks.specs.Block.{blockExponent, noMagnitude, allZero, allWh
 use Rattle.codec.specs.Code.{exactIntegers, exactFloats}
 use Rattle.codec.specs.Depth.{wholeIntegers, wholeWritten}
 use Rattle.codec.specs.Lowest.{planesAt, planesCoded}
-use Rattle.codec.specs.Calls.{integersCode, uncutFloats, uncutCode, uncutTo, Formed}
+use Rattle.codec.specs.Calls.{integersCode, uncutFloats, uncutCode, uncutTo, wholeAt, Formed}
 use Rattle.codec.proofs.Depth.{written-most}
 use Rattle.codec.proofs.Lowest.{planes-at-most}
 
@@ -117,11 +117,9 @@ module _ {f : Format} {float exact planes : Bool} {d p lowest k : ℕ} {ws ws′
     (width : ℕ) (form : Formed f float exact d p lowest ws ws′ head bits planes k) where
   pub with-planes : {after : List ℕ} {out₂ : Cursor} {whole : ℕ} → planes ≡ true → Written before mid out limit (numberBits bits head) out₁
       → Written mid after out₁ limit (integersCode f exact d k ws′) out₂ × (whole ≡ wholeIntegers f exact d k (width - bits) ws′)
-      → Written before after out limit (uncutTo f float exact d p lowest ws) out₂
-      × (whole ≡ wholeWritten f float exact d (planesCoded f float exact d p lowest ws) width ws)
+      → Written before after out limit (uncutTo f float exact d p lowest ws) out₂ × (whole ≡ wholeAt f float exact d p lowest width ws)
   with-planes e r₁ r₂ = (rw (form .code, e) (written-append r₁ (r₂ .0)), rw (form .whole width, e) (r₂ .1))
 
   pub without-planes : planes ≡ false → Written before mid out limit (numberBits bits head) out₁
-      → Written before mid out limit (uncutTo f float exact d p lowest ws) out₁
-      × (0 ≡ wholeWritten f float exact d (planesCoded f float exact d p lowest ws) width ws)
+      → Written before mid out limit (uncutTo f float exact d p lowest ws) out₁ × (0 ≡ wholeAt f float exact d p lowest width ws)
   without-planes e r₁ = (rw (form .code, e, append-nil (numberBits bits head)) r₁, rw (form .whole width, e))

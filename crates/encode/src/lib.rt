@@ -9,9 +9,8 @@ ghost use Rattle.words.specs.Calls.{Size};
 ghost use Rattle.floats.specs.Calls.{formatOf};
 ghost use Rattle.float_blocks.specs.Block.{anySpecial};
 ghost use Rattle.codec.specs.Head.{planesNeeded, exactPlanes};
-ghost use Rattle.codec.specs.Depth.{wholeOf, wholeIntegers, wholeWritten};
-ghost use Rattle.codec.specs.Lowest.{planesCoded};
-ghost use Rattle.codec.specs.Calls.{Shape, coefficientsCode, integersCode, uncutTo, Formed};
+ghost use Rattle.codec.specs.Depth.{wholeOf, wholeIntegers};
+ghost use Rattle.codec.specs.Calls.{Shape, coefficientsCode, integersCode, uncutTo, wholeAt, Formed};
 use bits::Cursor;
 use codec::change::Change;
 use codec::change::change_all;
@@ -208,8 +207,7 @@ pub fn put_block(
         × (limit ≤ 8 * length (now buf)) × (out .at < 2 ^ 28) × (out .writes ≤ out .at) × (13 ≤ width) ⌝ }
     ensures { λ r. ⌜ Written (now (buf .entry)) (now (buf .exit)) out limit
         (uncutTo (formatOf size) float exact d p lowest (now (words .entry))) (r .out)
-        × (r .whole ≡ wholeWritten (formatOf size) float exact d (planesCoded (formatOf size) float exact d p lowest (now (words .entry))) width
-        (now (words .entry))) ⌝ }
+        × (r .whole ≡ wholeAt (formatOf size) float exact d p lowest width (now (words .entry))) ⌝ }
 {
     let f = form_of(size, float, exact, d, p, lowest, words);
     let next = bits::put_number(buf, out, limit, f.head, f.bits);

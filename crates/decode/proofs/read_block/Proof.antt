@@ -59,7 +59,6 @@ same-length-6 : tie.Need-same-length-6
 same-length-6 c = search needs
 
 returns-3 : tie.Need-returns-3
-unfolding readCode wholeRead
 returns-3 c =
     let branch = c .before .before .before .before .before .before .before in
     let read = c .before .before .before .before .read-lossy-floats .ensures in
