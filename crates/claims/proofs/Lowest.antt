@@ -13,7 +13,7 @@ use Rattle.order.proofs.Orders.{in-order}
 use Rattle.codec.specs.Read.{readCode}
 use Rattle.codec.specs.Lowest.{planesAt, planesFor, unlessNone}
 use Rattle.codec.proofs.Depth.{written-most, read-most}
-use Rattle.codec.proofs.Lowest.{planes-all}
+use Rattle.codec.proofs.Lowest.{planes-all, other-planes, other-unless}
 use Rattle.codec.proofs.Zeros.{zeros-read}
 use Rattle.params.specs.declared.Params.{Params}
 use Rattle.params.specs.Width.{float, exact, widthOf, slotsIn}
@@ -130,17 +130,9 @@ least-is-before p some few q =
 
 others-before : (p : Params) → lossyFloat p ≡ false → AsBefore p
 unfolding codedPlanes readPlanes
-others-before p other = as-before p (λ ws. same (float p) (exact p) other _) (λ slot. same (float p) (exact p) other _) (kept (float p) (exact p) other)
-  where
-    same : (f x : Bool) → (f && not x) ≡ false → (k : ℕ) → planesFor f x (p .planes) k ≡ p .planes
-    same false x h k = refl
-    same true false h k = absurd (false≢true (sym h))
-    same true true h k = refl
-
-    kept : (f x : Bool) → (f && not x) ≡ false → (code : List Bool) → unlessNone f x (p .planes) code ≡ code
-    kept false x h code = refl
-    kept true false h code = absurd (false≢true (sym h))
-    kept true true h code = refl
+others-before p other =
+    as-before p (λ ws. other-planes (float p) (exact p) other (p .planes) _) (λ slot. other-planes (float p) (exact p) other (p .planes) _)
+    (other-unless (float p) (exact p) other (p .planes))
 
 others-ignore : OthersIgnore
 unfolding countOutcome bitOutcome storeOutcome readOutcome slotsIn

@@ -23,7 +23,7 @@ take-head k n width code h =
     let cut = ap {B = List Bool} (λ l. true ∷ l) (take-append-add (numberBits k n) code (width - (1 + k))) in
     sym (ap (λ (m : ℕ). take m (true ∷ (numberBits k n ++ code))) e ∙ cut)
 
-one-bit : (width : ℕ) → 1 ≤ width → false ∷ [] ≡ take width (false ∷ [])
+pub one-bit : (width : ℕ) → 1 ≤ width → false ∷ [] ≡ take width (false ∷ [])
 one-bit width h = let e : width ≡ suc (width - 1) = omega arith in rw e (ap {B = List Bool} (λ l. false ∷ l) (sym (take-nil (width - 1))))
 
 lossy-floats : (f : Format) (d p width : ℕ) (ws : List ℕ) → 1 + fieldBits f ≤ width → lossyFloats f d p width ws ≡ take width (uncutFloats f d p ws)

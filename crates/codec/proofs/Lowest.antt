@@ -1,15 +1,14 @@
 -- A lowest exponent: it leaves at most P planes, all of them at its least; a reader of a block's slot comes to as many as its writer, so what was written
 -- whole is read whole; and what has no planes reads as zeros.
-use mathlib.Core.Path.{_≡_, refl, sym, ap}
-use mathlib.Core.Bool.{Bool, true, false, cond}
+use mathlib.Core.Path.{_≡_, refl, sym}
+use mathlib.Core.Bool.{Bool, true, false, not, _&&_, cond, false≢true}
 use mathlib.Core.List.{List, [], _∷_, _++_, map, append-assoc}
-use Prim.Native.Nat.{ℕ, suc, _-_, _≤_}
+use Prim.Native.Nat.{ℕ, _≤_}
 use native.Mathlib.Omega.{arith}
 use borrow.Author.Tests.{eqb-true}
 use lib.Dec.{eqb}
 use lib.Ieee.{Format, binary32}
 use lib.ListN.{take}
-use lib.Seq.{take-nil}
 use Rattle.bits.specs.Stream.{numberBits}
 use Rattle.order.specs.Order.{order, inOrder}
 use Rattle.floats.specs.Pattern.{fieldBits}
@@ -18,6 +17,7 @@ use Rattle.float_blocks.specs.Block.{blockExponent, noMagnitude, anySpecial}
 use Rattle.codec.specs.Code.{lossyPlanes, floatBudget, lossyFloats, definedCode, padded}
 use Rattle.codec.specs.Depth.{wholeWritten, wholeLossyFloats, wholeRead}
 use Rattle.codec.specs.Lowest.{planesAt, planesFor, planesCoded, planesRead, unlessNone}
+use Rattle.codec.proofs.Budget.{one-bit}
 use Rattle.codec.proofs.RoundTrip.{number-first, exponent-fits}
 use Rattle.codec.proofs.Depth.{read-written, written-most}
 
@@ -36,14 +36,23 @@ pub planes-all : (d p e : ℕ) → p ≤ 32 → planesAt binary32 d p 0 e ≡ p
 unfolding planesAt
 planes-all d p e h = omega arith
 
--- exact mode ignores it
-pub exact-planes : (float : Bool) (p k : ℕ) → planesFor float true p k ≡ p
-exact-planes true p k = refl
-exact-planes false p k = refl
+-- kinds and modes other than lossy kind 1 ignore it
+module _ (float exact : Bool) (other : (float && not exact) ≡ false) where
+  pub other-planes : (p k : ℕ) → planesFor float exact p k ≡ p
+  other-planes = go float exact other
+    where
+      go : (f x : Bool) → (f && not x) ≡ false → (p k : ℕ) → planesFor f x p k ≡ p
+      go false x h p k = refl
+      go true false h p k = absurd (false≢true (sym h))
+      go true true h p k = refl
 
-pub exact-unless : (float : Bool) (k : ℕ) (code : List Bool) → unlessNone float true k code ≡ code
-exact-unless true k code = refl
-exact-unless false k code = refl
+  pub other-unless : (k : ℕ) (code : List Bool) → unlessNone float exact k code ≡ code
+  other-unless = go float exact other
+    where
+      go : (f x : Bool) → (f && not x) ≡ false → (k : ℕ) (code : List Bool) → unlessNone f x k code ≡ code
+      go false x h k code = refl
+      go true false h k code = absurd (false≢true (sym h))
+      go true true h k code = refl
 
 -- a single 0 is not cut
 pub unless-cut : (float : Bool) (k width : ℕ) (code : List Bool) → 1 ≤ width
@@ -52,7 +61,7 @@ unless-cut false k width code h = refl
 unless-cut true k width code h = go (eqb k 0)
   where
     go : (b : Bool) → cond b (false ∷ []) (take width code) ≡ take width (cond b (false ∷ []) code)
-    go true = let e : width ≡ suc (width - 1) = omega arith in rw e (ap {B = List Bool} (λ l. false ∷ l) (sym (take-nil (width - 1))))
+    go true = one-bit width h
     go false = refl
 
 module _ (f : Format) (d p lowest width : ℕ) (ws : List ℕ) (finite : anySpecial f ws ≡ false) where

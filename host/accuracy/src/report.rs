@@ -5,6 +5,7 @@ use crate::draw::Class;
 use crate::run::{Cell, K, Measured};
 use crate::{ALL_PLANES, error};
 use std::ops::RangeInclusive;
+use testing::grouped;
 
 /// The ranges of k that the first table keeps apart. In the last two m is at least q; in the last one the steps of binary32
 /// can be so large that they matter. Below them what is read can wrap around.
@@ -32,17 +33,6 @@ pub const ABOVE: RangeInclusive<i32> = ALL_PLANES + 1..=*K.end();
 /// An error with four digits, rounded up: no error is above what is shown.
 pub fn shown(error: f64) -> String {
     format!("{:.4}", (error * 10_000.0).ceil() / 10_000.0)
-}
-
-/// A number with a comma before its last three digits, and before the three above them.
-pub fn grouped(number: usize) -> String {
-    let digits = number.to_string();
-    let comma = |place: usize| place > 0 && (digits.len() - place) % 3 == 0;
-    digits
-        .chars()
-        .enumerate()
-        .flat_map(|(place, digit)| comma(place).then_some(',').into_iter().chain([digit]))
-        .collect()
 }
 
 fn row(cells: impl IntoIterator<Item = String>) -> String {

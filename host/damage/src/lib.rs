@@ -10,6 +10,7 @@ mod streams;
 use random::Random;
 pub use slots::{bits_changed, bytes_changed, noise, zeros};
 pub use streams::stream_bytes_changed;
+use testing::grouped;
 use windlassow::{Dimension, Params};
 
 /// How many were damaged, and what a read made of them.
@@ -59,17 +60,6 @@ pub fn rows() -> Vec<Row> {
 pub fn shown(row: &Row) -> String {
     let Tally { damaged, refused, other } = row.tally;
     format!("| {} | {} | {} | {} |", row.damage, grouped(damaged), grouped(refused), grouped(other))
-}
-
-/// A number with a comma before its last three digits, and before the three above them.
-fn grouped(number: usize) -> String {
-    let digits = number.to_string();
-    let comma = |place: usize| place > 0 && (digits.len() - place) % 3 == 0;
-    digits
-        .chars()
-        .enumerate()
-        .flat_map(|(place, digit)| comma(place).then_some(',').into_iter().chain([digit]))
-        .collect()
 }
 
 /// Readings in tenths of a degree: from 20.0 to 42.0 at first, then at most a tenth away from the one before.

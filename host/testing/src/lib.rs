@@ -1,5 +1,5 @@
-//! What the tests of several packages use: the papers' numbers, guarded buffers, a count of answers, and what was
-//! worked out by hand.
+//! What the tests and tables of several packages use: the papers' numbers, guarded buffers, a count of answers, how numbers
+//! are shown, and what was worked out by hand.
 
 pub mod by_hand;
 
@@ -23,6 +23,17 @@ pub const MAX_LOWEST: i32 = 300;
 pub fn repository() -> PathBuf {
     let package = Path::new(env!("CARGO_MANIFEST_DIR"));
     package.ancestors().nth(2).expect("the package is at host/testing").to_path_buf()
+}
+
+/// A number with a comma before its last three digits, and before the three above them.
+pub fn grouped(number: usize) -> String {
+    let digits = number.to_string();
+    let comma = |place: usize| place > 0 && (digits.len() - place) % 3 == 0;
+    digits
+        .chars()
+        .enumerate()
+        .flat_map(|(place, digit)| comma(place).then_some(',').into_iter().chain([digit]))
+        .collect()
 }
 
 /// The bits of a text of 0s and 1s, spaces left out.

@@ -202,6 +202,13 @@ impl Run {
         (m + 2 * (p.dimension as i32 + 1) - planes).clamp(MIN_LOWEST, MAX_LOWEST)
     }
 
+    /// Any width and P, and such a q.
+    fn around(&mut self, p: Params, m: i32) -> Params {
+        let width = any_width(&mut self.random, &p);
+        let lowest = self.lowest_near(&p, m);
+        Params { planes: any_planes(&mut self.random), width, lowest, ..p }
+    }
+
     /// Blocks of lossy floats with every q, in the larger dimensions with some.
     fn every_lowest(&mut self) {
         for p in lossy_floats() {
@@ -223,9 +230,7 @@ impl Run {
         for p in lossy_floats() {
             for field in 0..255 {
                 for _ in 0..self.rounds(&p, 10) {
-                    let (width, lowest) =
-                        (any_width(&mut self.random, &p), self.lowest_near(&p, field as i32 - 126));
-                    let p = Params { planes: any_planes(&mut self.random), width, lowest, ..p };
+                    let p = self.around(p, field as i32 - 126);
                     let words = block_of_field(&mut self.random, block_len(&p), field);
                     if let Some(mut slot) = self.comparison.block(&p, &words) {
                         damage(&mut self.random, &mut slot);
@@ -241,9 +246,7 @@ impl Run {
         for p in lossy_floats() {
             for e in 0..256 {
                 for _ in 0..self.rounds(&p, 10) {
-                    let (width, lowest) =
-                        (any_width(&mut self.random, &p), self.lowest_near(&p, e as i32 - 127));
-                    let p = Params { planes: any_planes(&mut self.random), width, lowest, ..p };
+                    let p = self.around(p, e as i32 - 127);
                     let slot = slot_of_e(&mut self.random, &checked(&p), e);
                     self.comparison.read(&p, &slot, Origin::Made);
                 }
