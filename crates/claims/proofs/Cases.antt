@@ -85,6 +85,7 @@ ours = (
   refl,
   (refl, refl),
   refl,
+  (refl, refl, refl),
   (refl, refl),
   refl,
   refl,

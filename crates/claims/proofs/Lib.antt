@@ -8,5 +8,6 @@ pub mod Demand3
 pub mod Demands
 pub mod Depth
 pub mod Lowest
+pub mod CutScan
 pub mod Tolerance
 pub mod Listing

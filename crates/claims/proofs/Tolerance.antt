@@ -1,18 +1,16 @@
 -- What is left out for a tolerance: as `Tolerance` says.
 use mathlib.Core.Path.{_≡_, refl, sym, ap, ap₂, _∙_}
 use mathlib.Core.Bool.{Bool, true, false, _&&_, and-eq-true-iff}
-use mathlib.Core.List.{List, _∷_, _++_, map, append-assoc}
+use mathlib.Core.List.{List, map}
 use Prim.Native.Nat.{ℕ, _+_, _-_, _*_, _/_, _%_, _^_, _≤_}
 use native.Mathlib.Nat.{le-trans, add-zero, mul-le-mul-left, mul-assoc, mul-comm, mod-lt, mod-add-mod, div-add-mod'}
 use native.Mathlib.Omega.{arith}
-use borrow.Author.Tests.{leb-true, ne-eqb}
+use borrow.Author.Tests.{leb-true}
 use lib.Ieee.{Format, binary32, emax}
-use lib.ListN.{length, getD, take, drop}
+use lib.ListN.{length, getD}
 use lib.Bits.{bitXor, xor-block, xor-lt, xor-zero-l}
 use lib.Dec.{leb}
 use lib.Pow.{pow-add, pow-mono, pow-pos, shl-lt}
-use lib.Seq.{take-all}
-use Rattle.bits.specs.Stream.{numberBits, numberOf}
 use Rattle.words.specs.Word.{plus, minus, mask, unnega}
 use Rattle.order.specs.Order.{below}
 use Rattle.order.proofs.Tables.{each}
@@ -20,9 +18,8 @@ use Rattle.order.proofs.Orders.{in-order}
 use Rattle.planes.specs.Coder.{planesCode}
 use Rattle.planes.proofs.Bound.{bound}
 use Rattle.planes.proofs.Depth.{all-within}
-use Rattle.planes.proofs.RoundTrip.{words-top}
 use Rattle.blocks.specs.Coefficients.{coefficients, values}
-use Rattle.blocks.proofs.Whole.{length-coefficients, words-coefficients}
+use Rattle.blocks.proofs.Whole.{length-coefficients}
 use Rattle.floats.specs.Pattern.{exponentField}
 use Rattle.floats.specs.Integer.{toInteger}
 use Rattle.floats.specs.Calls.{digits, digitPlace}
@@ -30,18 +27,17 @@ use Rattle.floats.proofs.Magnitudes.{parts-of}
 use Rattle.float_blocks.proofs.Blocks.{field-le}
 use Rattle.float_blocks.specs.Block.{blockExponent}
 use Rattle.rounding.specs.Rounded.{toPattern}
-use Rattle.codec.specs.Code.{lossyFloats, definedCode}
-use Rattle.codec.specs.Read.{readIntegers, readLossyFloats, readCode}
-use Rattle.codec.proofs.RoundTrip.{number-first, exponent-fits}
+use Rattle.codec.specs.Code.{padded}
 use Rattle.codec.specs.Depth.{wholeWritten}
 use Rattle.codec.specs.Lowest.{planesAt}
 use Rattle.codec.proofs.Lowest.{planes-at-most, planes-for-most}
 use Rattle.params.specs.declared.Params.{Params}
 use Rattle.params.specs.Width.{float, exact, wordCount, widthOf}
 use Rattle.params.proofs.RowLaws.{Good, good}
-use Rattle.slot_code.specs.Rules.{codedPlanes, readPlanes, codeOf, wordsOf, depthOf}
+use Rattle.slot_code.specs.Rules.{codedPlanes, codeOf, wordsOf, depthOf}
 use Rattle.claims.specs.Tolerance.{Uncut, kept, LowestWeight, DroppedDigits, SmallLeftOut, Tolerance}
 use Rattle.claims.proofs.Lowest.{lossy-parts}
+use Rattle.claims.proofs.CutScan.{stored-kept}
 
 module _ (p : Params) (ws : List ℕ) (u : Uncut p ws) where
   g : Good p
@@ -75,33 +71,12 @@ module _ (p : Params) (ws : List ℕ) (u : Uncut p ws) where
       let l = lossy-parts (float p) (exact p) (u .lossy) in
       rw (l .0, l .1, u .some) (all-within 32 k (widthOf p - 9) cs fits)
 
-  module _ (some : 1 ≤ k) where
-    abbrev e : ℕ
-    e = blockExponent binary32 ws
-
-    code-is : codeOf p ws ≡ true ∷ (numberBits 8 e ++ planesCode 32 k cs)
-    unfolding codeOf definedCode lossyFloats
-    code-is =
-        let l = lossy-parts (float p) (exact p) (u .lossy) in
-        rw (l .0, l .1, ne-eqb k 0 (λ z. omega arith), u .some, take-all (widthOf p - 9) (planesCode 32 k cs) fits)
-
-    module _ (t : List Bool) where
-      abbrev rest : List Bool
-      rest = planesCode 32 k cs ++ t
-
-      head : (numberOf (take 8 (numberBits 8 e ++ rest)) ≡ e) × (drop 8 (numberBits 8 e ++ rest) ≡ rest)
-      head = number-first 8 e rest (exponent-fits binary32 ws (u .finite))
-
-      planes-is : readPlanes p (true ∷ (numberBits 8 e ++ rest)) ≡ k
-      unfolding readPlanes codedPlanes
-      planes-is = let l = lossy-parts (float p) (exact p) (u .lossy) in rw (l .0, l .1, head .0)
-
-      words-is : wordsOf p (codeOf p ws ++ t) ≡ map (toPattern binary32 e) (values 32 false (p .dimension) (map (kept k) cs))
-      unfolding wordsOf readCode readLossyFloats readIntegers
-      words-is =
-          let l = lossy-parts (float p) (exact p) (u .lossy) in
-          let top = words-top 32 k cs t (words-coefficients 32 false (p .dimension) _) few in
-          rw (code-is, append-assoc (numberBits 8 e) (planesCode 32 k cs) t, planes-is, l .0, l .1, head .0, head .1, rw long at top)
+  -- so the read gives what the planes coded stand for
+  kept-planes : 1 ≤ k
+      → wordsOf p (padded (widthOf p) (codeOf p ws)) ≡ map (toPattern binary32 (blockExponent binary32 ws)) (values 32 false (p .dimension) (map (kept k) cs))
+  kept-planes some =
+      let l = lossy-parts (float p) (exact p) (u .lossy) in
+      rw (l .0) at (stored-kept p ws g (l .1) (λ q. u .finite) some all-reported)
 
 lowest-weight : LowestWeight
 unfolding planesAt
@@ -172,4 +147,4 @@ small-left-out p ws planes lossy none i inside =
         ∙ ap (λ (y : ℕ). a * b * y) (mul-comm 256 c) ∙ sym (mul-assoc (a * b) c 256)
 
 pub tolerance : Tolerance
-tolerance = (all-reported, (λ p ws u some. words-is p ws u some _), lowest-weight, dropped-digits, small-left-out)
+tolerance = (all-reported, kept-planes, lowest-weight, dropped-digits, small-left-out)

@@ -8,4 +8,5 @@ pub mod Demands
 pub mod Depth
 pub mod Lowest
 pub mod Tolerance
+pub mod CutScan
 pub mod Listing

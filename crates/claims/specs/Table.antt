@@ -167,11 +167,19 @@ NegativeHalved = (half 32 (2 ^ 32 - 1) ≡ 2 ^ 32 - 1) × (half 32 (2 ^ 32 - 3) 
 abbrev pub RoundingTie : Type 0
 RoundingTie = map (toPattern binary32 157) ((2 ^ 24 + 1) ∷ (2 ^ 24 + 3) ∷ []) ≡ 0x4b80_0000 ∷ 0x4b80_0002 ∷ []
 
--- a scan that the budget cuts before place N - 1 sets no bit: right after its test, and two places on
+-- a scan that the budget cuts before place N - 1 sets the bit at the place that it has come to: right after its test, two places on, and in a second
+-- plane, of which n is 1
 abbrev pub CutScan : Type 0
 CutScan =
-    (readWords 32 4 1 (bits (1 ∷ [])) ≡ 0 ∷ 0 ∷ 0 ∷ 0 ∷ [])
-    × (readWords 32 4 1 (bits (1 ∷ 0 ∷ 0 ∷ [])) ≡ 0 ∷ 0 ∷ 0 ∷ 0 ∷ [])
+    (readWords 32 4 1 (bits (1 ∷ [])) ≡ 2 ^ 31 ∷ 0 ∷ 0 ∷ 0 ∷ [])
+    × (readWords 32 4 1 (bits (1 ∷ 0 ∷ 0 ∷ [])) ≡ 0 ∷ 0 ∷ 2 ^ 31 ∷ 0 ∷ [])
+    × (readWords 32 4 2 (bits (1 ∷ 1 ∷ 0 ∷ 0 ∷ 1 ∷ [])) ≡ 2 ^ 31 ∷ 2 ^ 30 ∷ 0 ∷ 0 ∷ [])
+
+-- a test that the budget cuts sets none: after a one, and in a second plane
+abbrev pub CutTest : Type 0
+CutTest =
+    (readWords 32 4 1 (bits (1 ∷ 1 ∷ [])) ≡ 2 ^ 31 ∷ 0 ∷ 0 ∷ 0 ∷ [])
+    × (readWords 32 4 2 (bits (1 ∷ 1 ∷ 0 ∷ 0 ∷ [])) ≡ 2 ^ 31 ∷ 0 ∷ 0 ∷ 0 ∷ [])
 
 -- a scan that has come to place N - 1 when the budget ends sets the bit there
 abbrev pub CutScanAtLast : Type 0
@@ -305,7 +313,7 @@ Paper = P1 × P2 × P3 × P4 × P5 × P6 × P7 × P8 × P9 × P10 × P11 × P12
 
 abbrev pub Ours : Type 0
 Ours =
-    WidthZero × BetweenNeighbours × LossyFloats × Answers11 × OrderTold × NegativeHalved × RoundingTie × CutScan × CutScanAtLast × CutVerbatim
+    WidthZero × BetweenNeighbours × LossyFloats × Answers11 × OrderTold × NegativeHalved × RoundingTie × CutScan × CutTest × CutScanAtLast × CutVerbatim
     × FourAsThree × DfcmTaken × TieTakesFcm × OddThree × HashWraps × RampsTold × WidestSlots × PlanesWritten × PlanesFound × PlanesOfZeros
     × PlanesLeft × NoPlanesRead × RowThirteen × Listed × ListedBad
 

@@ -7,7 +7,7 @@ use native.Mathlib.Nat.{mul-mod-left}
 use native.Mathlib.Omega.{arith}
 use borrow.Author.Tests.{le-leb, lt-leb, leb-true, leb-false}
 use lib.Dec.{leb}
-use lib.ListN.{length, take, drop, replicate, length-append, length-drop, length-map}
+use lib.ListN.{length, take, drop, replicate, length-append, length-drop, length-take, length-map}
 use lib.Seq.{length-take-le, take-all, take-append-le, take-append-add, drop-at}
 use Rattle.bits.specs.Stream.{bit}
 use Rattle.words.specs.Word.{AllBelow}
@@ -18,6 +18,7 @@ use Rattle.planes.proofs.Bound.{plane-bound, planesOf-length}
 use Rattle.planes.proofs.Words.{Low, top, top-none, top-low}
 use Rattle.planes.proofs.RoundTrip.{plane-back, next-back, add-next, add-plane}
 use Rattle.planes.proofs.Whole.{whole-back, from-top}
+use Rattle.planes.proofs.Cuts.{prefixes}
 
 -- ---- a strict prefix of a plane's code is not whole
 
@@ -43,35 +44,22 @@ and-false : (a : Bool) {b : Bool} → b ≡ false → (a && b) ≡ false
 and-false true e = e
 and-false false e = refl
 
--- a plane of N places at n
+-- a plane of N places at n, cut in the n first bits, and in the test after them
 module _ (N n : ℕ) (bs : List Bool) (e : length bs ≡ N) (hn : n ≤ N) where
-  first : length (take n bs) ≡ n
-  first = length-take-le n bs (omega arith)
-
-  -- the n first bits, and a strict prefix of the test after them
-  later : (k : ℕ) → k < length (test (drop n bs)) → readPlane N n (take n bs ++ take k (test (drop n bs))) .whole ≡ false
+  early : (b : ℕ) → b < n → readPlane N n (take b bs) .whole ≡ false
   unfolding readPlane
-  later k h =
+  early b h = rw (lt-leb n (length (take b bs)) (omega (arith, length-take b bs)))
+
+  late : (k : ℕ) → k < length (test (drop n bs)) → readPlane N n (take n bs ++ take k (test (drop n bs))) .whole ≡ false
+  unfolding readPlane
+  late k h =
       let left : N - n ≡ length (drop n bs) = omega (arith, length-drop n bs) in
       let bits = take n bs ++ take k (test (drop n bs)) in
-      rw (drop-at (take n bs) (take k (test (drop n bs))) n first, left) (and-false (leb n (length bits)) (test-cut (drop n bs) k h))
+      rw (drop-at (take n bs) (take k (test (drop n bs))) n (length-take-le n bs (omega arith)), left)
+      (and-false (leb n (length bits)) (test-cut (drop n bs) k h))
 
   pub plane-cut : (b : ℕ) → b < length (planeCode n bs) → readPlane N n (take b (planeCode n bs)) .whole ≡ false
-  unfolding planeCode readPlane
-  plane-cut b h = go (leb n b) refl
-    where
-      code : List Bool
-      code = take n bs ++ test (drop n bs)
-
-      go : (a : Bool) → leb n b ≡ a → readPlane N n (take b code) .whole ≡ false
-      go false t =
-          let long = length-take-le b code (omega arith) in
-          rw (lt-leb n (length (take b code)) (omega (arith, leb-false n b t, long)))
-      go true t =
-          let code₂ = test (drop n bs) in
-          let more : b ≡ length (take n bs) + (b - n) = omega (arith, first, leb-true n b t) in
-          let split = ap (λ (m : ℕ). take m code) more ∙ take-append-add (take n bs) code₂ (b - n) in
-          rw split (later (b - n) (omega (arith, first, length-append (take n bs) code₂, leb-true n b t)))
+  plane-cut = prefixes N n bs e hn (λ s. readPlane N n s .whole ≡ false) early late
 
 -- ---- the ends of planes, and how many are within a budget
 
@@ -141,6 +129,20 @@ ends-length : (at n : ℕ) (pls : List (List Bool)) → length (endsFrom at n pl
 ends-length at n [] = refl
 ends-length at n (bs ∷ pls) = ap suc (ends-length (planeEnd at n bs) (planeNext n bs) pls)
 
+-- where all of them are within it, the code is
+ends-fit : (budget at n : ℕ) (pls : List (List Bool)) → at ≤ budget → within budget (endsFrom at n pls) ≡ length pls → at + length (codeFrom n pls) ≤ budget
+ends-fit budget at n [] h e = omega arith
+ends-fit budget at n (bs ∷ pls) h e =
+    let end = planeEnd at n bs in
+    let most = within-most budget (endsFrom end (planeNext n bs) pls) in
+    let both = all-counted (leb end budget) (omega (arith, most, ends-length end (planeNext n bs) pls)) e in
+    let ih = ends-fit budget end (planeNext n bs) pls (leb-true end budget (both .0)) (both .1) in
+    omega (arith, ih, length-append (planeCode n bs) (codeFrom (planeNext n bs) pls))
+  where
+    all-counted : (a : Bool) {m l : ℕ} → m ≤ l → cond a (suc m) m ≡ suc l → (a ≡ true) × (m ≡ l)
+    all-counted true h e = (refl, omega arith)
+    all-counted false h e = absurd (omega arith)
+
 module _ (w p budget : ℕ) (ws : List ℕ) where
   pub planes-most : planesWithin w p budget ws ≤ p
   unfolding planesWithin
@@ -155,6 +157,11 @@ module _ (w p budget : ℕ) (ws : List ℕ) where
   pub all-within : length (planesCode w p ws) ≤ budget → planesWithin w p budget ws ≡ p
   all-within h =
       sym read-cut ∙ ap (wholePlanes (length ws) p) (take-all budget (planesCode w p ws) h ∙ sym (append-nil (planesCode w p ws))) ∙ whole-back w p ws [] .0
+
+  -- and one that all planes are within, which cuts nothing
+  pub all-uncut : planesWithin w p budget ws ≡ p → take budget (planesCode w p ws) ≡ planesCode w p ws
+  unfolding planesCode planesWithin
+  all-uncut h = take-all budget _ (omega (arith, ends-fit budget 0 0 (planesOf w p ws) (omega arith) (h ∙ sym (planesOf-length w p ws))))
 
   -- and padded up to it
   pub read-padded : wholePlanes (length ws) p (take budget (planesCode w p ws) ++ replicate (budget - length (take budget (planesCode w p ws))) false)
