@@ -159,8 +159,8 @@ enum { WINDLASSOW_STACK_BYTES = 80 * 1024 };
 /*
  * What a slot call returns: the answer number, its count and the planes.
  *
- * With this version the slot calls take one more argument, lowest, after width. So every caller must be
- * compiled again with this header.
+ * A caller that was compiled before the slot calls took lowest, the argument after width, must be compiled
+ * again with this header.
  */
 struct windlassow_reply {
     uint32_t answer;
@@ -188,7 +188,8 @@ struct windlassow_reply windlassow_store(
  * Reads a slot into the words.
  * Answers 0 to 8, 11 and 13. Count when done: the words of a block. Planes when done: those that could
  * be read whole, which for a slot that a store has written are the planes of the store. A lossy read
- * takes any slot, and 11 is no detector of damage: see above.
+ * takes any slot, and 11 is no detector of damage: see above. Where the end of a lossy slot cuts a plane
+ * in the search for a one, its bit is set at the place that the search has come to, as other zfp programs do.
  */
 struct windlassow_reply windlassow_read(
     uint32_t kind, uint32_t dimension, uint32_t mode, uint32_t planes, uint32_t width, int32_t lowest,

@@ -88,18 +88,29 @@ fn planes_of_64_bit_words() {
     }
 }
 
+/// The only bit that can be set without having been coded is the one of a cut scan: it is in the first plane that is not whole, and that plane
+/// has its one further on.
 #[test]
-fn reading_a_cut_code_never_sets_other_bits() {
+fn reading_a_cut_code_sets_at_most_one_other_bit() {
     let mut random = Random::new(5);
+    let mut seen = 0;
     for _ in 0..200 {
         let block: Vec<u32> = (0..16).map(|_| random.word() >> random.below(32)).collect();
         let code = planes::code(&block, 32);
         for budget in 0..=code.len() {
             let cut = planes::code_within(&block, 32, budget).bits;
-            let (read, _) = planes::read::<u32>(&cut, 16, 32);
-            assert!(read.iter().zip(&block).all(|(r, b)| r & !b == 0));
+            let (read, whole) = planes::read::<u32>(&cut, 16, 32);
+            let others: Vec<usize> = (0..16).filter(|&place| read[place] & !block[place] != 0).collect();
+            assert!(others.len() <= 1);
+            for place in others {
+                let bit = 1 << (31 - whole);
+                assert_eq!(read[place] & !block[place], bit);
+                assert!(block[place + 1..].iter().any(|word| word & bit != 0));
+                seen += 1;
+            }
         }
     }
+    assert!(seen > 0, "no scan was cut before its one");
 }
 
 /// The rounding of integer x 2^(e-157) to binary32 in integer arithmetic alone.

@@ -37,21 +37,36 @@ fn a_lossy_code_is_cut_at_the_width() {
     }
 }
 
+/// The block of four coefficients in negabinary.
+fn block_of(coefficients: [u32; 4]) -> [u32; 4] {
+    reference::transform::unlift(coefficients.map(reference::words::from_negabinary))
+}
+
 #[test]
-fn a_cut_scan_sets_no_bit_unless_it_has_come_to_the_last_place() {
-    // Sixteen bits: fourteen planes without a one, then a test and one bit of its scan.
-    assert_eq!(lossy_read(INTEGERS, 32, 16, "00000000000000 1 0"), ([0; 4], 14));
-    // A test alone as the budget ends.
-    assert_eq!(lossy_read(INTEGERS, 32, 16, "000000000000000 1"), ([0; 4], 15));
-    // Two 0s of a scan from place 0 come to place 2: no bit.
-    assert_eq!(lossy_read(INTEGERS, 32, 16, "0000000000000 1 00"), ([0; 4], 13));
-    // A third comes to place 3, which is known: plane 19 of the last coefficient, and that plane is whole.
-    let expected = reference::transform::unlift([0, 0, 0, reference::words::from_negabinary(1u32 << 19)]);
-    assert_eq!(lossy_read(INTEGERS, 32, 16, "000000000000 1 000"), (expected, 13));
-    // After a one at place 2 a test alone is enough for place 3.
-    let both = [0, 0, 1u32 << 20, 1 << 20].map(reference::words::from_negabinary);
-    let expected = reference::transform::unlift(both);
-    assert_eq!(lossy_read(INTEGERS, 32, 16, "00000000000 1 001 1"), (expected, 12));
+fn a_cut_scan_sets_the_bit_at_the_place_that_it_has_come_to() {
+    // Sixteen bits: fifteen planes without a one, then a test alone as the budget ends. Right after it, that is place 0.
+    assert_eq!(lossy_read(INTEGERS, 32, 16, "000000000000000 1"), (block_of([1 << 16, 0, 0, 0]), 15));
+    // One 0 of a scan from place 0 comes to place 1, two come to place 2.
+    assert_eq!(lossy_read(INTEGERS, 32, 16, "00000000000000 1 0"), (block_of([0, 1 << 17, 0, 0]), 14));
+    assert_eq!(lossy_read(INTEGERS, 32, 16, "0000000000000 1 00"), (block_of([0, 0, 1 << 18, 0]), 13));
+    // A third comes to place 3, which is known: that plane is whole.
+    assert_eq!(lossy_read(INTEGERS, 32, 16, "000000000000 1 000"), (block_of([0, 0, 0, 1 << 19]), 13));
+    // After a one at place 2 a test alone is enough for place 3, and that plane is whole too.
+    let both = block_of([0, 0, 1 << 20, 1 << 20]);
+    assert_eq!(lossy_read(INTEGERS, 32, 16, "00000000000 1 001 1"), (both, 12));
+    // After a one at place 0 a test alone says that a one comes from place 1 on.
+    let both = block_of([1 << 18, 1 << 18, 0, 0]);
+    assert_eq!(lossy_read(INTEGERS, 32, 16, "0000000000000 1 1 1"), (both, 13));
+    // In the next plane n is 1, and the place is too.
+    let both = block_of([1 << 20, 1 << 19, 0, 0]);
+    assert_eq!(lossy_read(INTEGERS, 32, 16, "00000000000 110 0 1"), (both, 12));
+}
+
+#[test]
+fn a_cut_test_sets_no_bit() {
+    // After a one at place 0, and in the next plane, after its first bit.
+    assert_eq!(lossy_read(INTEGERS, 32, 16, "00000000000000 1 1"), (block_of([1 << 17, 0, 0, 0]), 14));
+    assert_eq!(lossy_read(INTEGERS, 32, 16, "000000000000 110 0"), (block_of([1 << 19, 0, 0, 0]), 13));
 }
 
 #[test]

@@ -3,7 +3,8 @@
 /// The count and the planes of a done call on a slot.
 ///
 /// The planes say how much of a lossy record survived: the words come back as if all lower planes were zeros, but for what
-/// is left of the first plane that was cut. Here a slot of 40 bits takes 28 of 32 planes of four readings:
+/// is left of the first plane that was cut. Here a slot of 40 bits takes 28 of 32 planes of four readings, and two bits of the
+/// next, a one and a test:
 ///
 /// ```
 /// use windlassow::{Block, Dimension, Done, Params, Refusal, read_block, store_block};
@@ -12,7 +13,7 @@
 /// let mut archive = [0; 5];
 /// let done = store_block(params, &mut archive, 0, &[2000, 2004, 2008, 2012])?;
 /// assert_eq!(done, Done { count: 40, planes: 28 });
-/// assert_eq!(read_block(params, &archive, 0)?, Block { values: [2008; 4], planes: 28 });
+/// assert_eq!(read_block(params, &archive, 0)?, Block { values: [1996, 2004, 2012, 2020], planes: 28 });
 ///
 /// // With 51 bits nothing is cut.
 /// let params = params.with_width(51);

@@ -109,7 +109,9 @@ pub fn store(params: Params, archive: &mut [u8], slot: usize, words: &[u32]) -> 
 /// Reads a slot into `words`, which must have the length of a block, and gives that length and the planes that could be
 /// read whole.
 ///
-/// In exact mode a slot that no block could have produced is refused. In lossy mode every slot can be read.
+/// In exact mode a slot that no block could have produced is refused. In lossy mode every slot can be read. Where its end cuts
+/// a plane in the search for a one, the bit is set at the place that the search has come to, as other zfp programs do; of such a
+/// slot the planes are fewer than were coded.
 ///
 /// A slot that was damaged is refused only if it has become no block's code. Often it is another block's own code
 /// and is read as that block without a sign; a slot of zeros reads as zeros. Who can lose bytes keeps a checksum of

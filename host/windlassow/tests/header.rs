@@ -19,7 +19,7 @@ read: answer 7, count 0, planes 0
 store: answer 0, count 40, planes 28
 28 of 32 planes are whole
 read: answer 0, count 4, planes 28
-2008 2008 2008 2008
+1996 2004 2012 2020
 store: answer 0, count 27, planes 9
 read: answer 0, count 4, planes 9
 15.625 15.625 15.625 15.625
@@ -41,7 +41,9 @@ fpc_write: answer 20, count 0
 // empty, a test, a bit and a test in plane 8, a bit and a test in each of the planes 7 to 0.
 //
 // The planes of 2000 2004 2008 2012 are written out in `testing::by_hand::planes::readings`: 28 of them end at the 38th bit,
-// and the next takes four. What is left of it is a one of the first coefficient, 2048 - 32 - 8 = 2008, and a test.
+// and the next takes four. What is left of it is a one of the first coefficient, 2048 - 32 - 8 = 2008, and a test answered 1.
+// So its bit is set at place 1: the second coefficient is -8. Reading makes of y = -8: w = 4, y = -4, w = 12, and of x = 2008:
+// z = x; y = 2004, z = 2012; w = 2020, x = 1996.
 //
 // 15.625 to 15.71875 are written out in `testing::by_hand::planes::degrees`: with q = -1 there are 4 + 1 + 4 = 9 planes of
 // 1, 3, 4 x 2 and 3 x 2 bits after the head of 9, and the first coefficient is 2048 - 64 + 32 - 16 = 2000 parts of a degree.

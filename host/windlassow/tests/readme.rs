@@ -28,7 +28,7 @@ fn the_bits_of_p5() {
     assert_eq!(archive[..18], bytes_of(&code, 18));
 }
 
-/// The two slots of the picture: their bits, and the bytes that it gives for them.
+/// The slots of the picture: their bits, and the bytes that it gives for them.
 fn cut_slots() -> Vec<(Vec<bool>, Vec<u8>)> {
     let lines = picture("A scan that the end of a lossy slot cuts");
     let slot = |line: &String| {
@@ -39,8 +39,8 @@ fn cut_slots() -> Vec<(Vec<bool>, Vec<u8>)> {
     lines.iter().filter_map(slot).collect()
 }
 
-/// The first slot has the coefficient 0 0 0 u with u = 2^19, in negabinary -2^19. With a = 2^17 reading makes of w = -4a: y = -2a, w = -3a;
-/// y = -5a, w = -a; z = 5a; x = a.
+/// Each slot has one coefficient. With a = 2^16: the first has w = -8a, in negabinary 2^19, of which reading makes y = -4a, w = -6a; y = -10a, w = -2a;
+/// z = 10a; x = 2a. The second has z = 4a, of which it makes x = -4a, y = 4a, w = -4a. The third has x = a, which is every value's.
 #[test]
 fn a_scan_cut_at_the_last_place_and_before_it() {
     let p = Params::lossy_integers(Dimension::One, 32, 16);
@@ -50,10 +50,11 @@ fn a_scan_cut_at_the_last_place_and_before_it() {
     }
     let blocks: Vec<Block<i32, 4>> =
         slots.iter().map(|(_, bytes)| read_block(p, bytes, 0).unwrap()).collect();
-    let a = 1 << 17;
-    // Planes 31 to 20 and plane 19, which is whole; planes 31 to 19.
-    let whole = Block { values: [a, -5 * a, 5 * a, -a], planes: 12 + 1 };
-    assert_eq!(blocks, [whole, Block { values: [0; 4], planes: 13 }]);
+    let a = 1 << 16;
+    // Planes 31 to 20 and plane 19, which is whole; planes 31 to 19; planes 31 to 17.
+    let last = Block { values: [2 * a, -10 * a, 10 * a, -2 * a], planes: 12 + 1 };
+    let third = Block { values: [-4 * a, 4 * a, 4 * a, -4 * a], planes: 13 };
+    assert_eq!(blocks, [last, third, Block { values: [a; 4], planes: 15 }]);
 }
 
 /// A row of a picture shows the numbers of a row of each square.

@@ -14,8 +14,6 @@ use reference::params::{Checked, Kind, Mode};
 pub enum Class {
     /// Writing floats: 2^(30-m) is above every binary32 number. See [`scale_overflows`].
     ScaleOverflow,
-    /// Lossy reading: the budget ends in a scan before place N-1. See [`cut_scan`].
-    CutScan,
     /// Reading floats: 2^(m-30) is below every binary32 number but 0. See [`scale_underflows`].
     ScaleUnderflow,
     /// Row 9: a lossy block of floats with an infinity or a NaN. libzfp leaves open what it writes.
@@ -45,9 +43,8 @@ impl Call {
 
 impl Class {
     /// All of them, in the order of their letters.
-    pub const ALL: [Class; 7] = [
+    pub const ALL: [Class; 6] = [
         Class::ScaleOverflow,
-        Class::CutScan,
         Class::ScaleUnderflow,
         Class::NotFinite,
         Class::TooLong,
@@ -64,7 +61,7 @@ impl Class {
     fn calls(self) -> &'static [Call] {
         match self {
             Class::ScaleOverflow | Class::NotFinite | Class::TooLong => &[Call::Write],
-            Class::CutScan | Class::ScaleUnderflow | Class::NotACode => &[Call::Read],
+            Class::ScaleUnderflow | Class::NotACode => &[Call::Read],
             Class::TieOrder => &[Call::Write, Call::Read],
         }
     }
@@ -74,16 +71,22 @@ impl Class {
         self as usize
     }
 
-    /// The letter under which the class stands in the report.
+    /// The letter under which the class stands in the report. B was the cut scan's, which M-104 has done away with.
     pub fn letter(self) -> char {
-        (b'A' + self as u8) as char
+        match self {
+            Class::ScaleOverflow => 'A',
+            Class::ScaleUnderflow => 'C',
+            Class::NotFinite => 'D',
+            Class::TooLong => 'E',
+            Class::NotACode => 'F',
+            Class::TieOrder => 'G',
+        }
     }
 
     /// A short name.
     pub fn name(self) -> &'static str {
         match self {
             Class::ScaleOverflow => "scale overflow",
-            Class::CutScan => "cut scan",
             Class::ScaleUnderflow => "scale underflow",
             Class::NotFinite => "answer 9",
             Class::TooLong => "answer 10",
@@ -97,7 +100,6 @@ impl Class {
     pub fn is_stated(self, call: Call, kind: Kind, mode: Mode, dimension: u32) -> bool {
         let of_blocks = match self {
             Class::ScaleOverflow | Class::ScaleUnderflow => kind == Kind::Floats,
-            Class::CutScan => mode == Mode::Lossy,
             Class::NotFinite => kind == Kind::Floats && mode == Mode::Lossy,
             Class::TooLong | Class::NotACode => mode == Mode::Exact,
             Class::TieOrder => ties_differ(dimension),
@@ -135,39 +137,6 @@ pub fn scale_underflows(e: u32) -> bool {
 /// The condition of [`Class::NotFinite`], which is that of row 9.
 pub fn some_not_finite(words: &[u32]) -> bool {
     words.iter().any(|&word| exponent_field(word) == 255)
-}
-
-/// A bit of the coefficients.
-#[derive(Clone, Copy, Debug, PartialEq, Eq)]
-pub struct Place {
-    /// Which coefficient, in the order of coding.
-    pub coefficient: usize,
-    /// Its bit.
-    pub plane: u32,
-}
-
-/// The condition of [`Class::CutScan`]: a test was answered 1, and the bits end before the scan after it has found
-/// its one or come to place N-1. Gives the place that the scan had come to.
-pub fn cut_scan(bits: &[bool], len: usize, planes: u32) -> Option<Place> {
-    let mut rest = bits.iter();
-    let mut n = 0;
-    for plane in (32 - planes..32).rev() {
-        // The n first bits as they are.
-        for _ in 0..n {
-            rest.next()?;
-        }
-        while n < len && *rest.next()? {
-            while n < len - 1 {
-                match rest.next() {
-                    Some(true) => break,
-                    Some(false) => n += 1,
-                    None => return Some(Place { coefficient: n, plane }),
-                }
-            }
-            n += 1;
-        }
-    }
-    None
 }
 
 /// The bits in front of the planes, and e if there is one. None where there are no planes.

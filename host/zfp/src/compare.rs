@@ -2,7 +2,8 @@
 
 use crate::bits::{bits_of, bytes_of, hex, hex_words, padded};
 use crate::classes::{Call, Class, Head, scale_overflows, scale_underflows, some_not_finite, ties_differ};
-use crate::expected::{Code, Rules, followed_by_zeros, words_read, written};
+use crate::cuts::slot_cut_in_scan;
+use crate::expected::{Code, followed_by_zeros, words_read, written};
 use crate::libzfp::{Libzfp, Setting, checked, setting, shape};
 use crate::order::{Reordered, reordered};
 use crate::planes::{planes_read, planes_within};
@@ -216,7 +217,7 @@ impl Comparison {
         let agreed = reply == reference::read(p, &archive, 0, &mut expected) && words == expected;
         self.must(agreed, "the reference reads otherwise", p, || hex(slot));
         let (theirs, taken) = self.lib.decode(shape(&c), setting(&c), slot);
-        let foretold = theirs == words_read(&c, slot, Rules::libzfp(self.lib.orders(c.dimension)));
+        let foretold = theirs == words_read(&c, slot, Some(self.lib.orders(c.dimension)));
         self.must(foretold, "libzfp's words are not the ones expected", p, || hex(slot));
         let words = (reply.answer == 0).then_some(words);
         let class = self.class_of_reading(p, slot, words.as_deref(), &theirs);
@@ -228,14 +229,16 @@ impl Comparison {
         if let Some(Head { e: Some(_), planes, .. }) = Head::of(&c, slot).filter(|_| c.mode == Mode::Lossy) {
             row.note_left(Call::Read, &c, planes);
         }
+        if let Some((place, budget)) = slot_cut_in_scan(&c, slot) {
+            row.note_cut_scan(place, budget, class);
+        }
         row.slots[origin as usize] += 1;
         row.words_equal += u64::from(words.as_ref() == Some(&theirs));
         row.note(Call::Read, class);
         Read { reply, ours: words, theirs, taken, class }
     }
 
-    /// A difference that would be there in our order too is the underflow's if that alone makes one, else the cut
-    /// scan's; one that goes with the order, the order's.
+    /// A difference that would be there in our order too is the underflow's; one that goes with the order, the order's.
     fn class_of_reading(
         &mut self,
         p: &Params,
@@ -250,18 +253,14 @@ impl Comparison {
         if words == theirs {
             return None;
         }
-        let changes = |cut_scan, underflow| {
-            words_read(&c, slot, Rules { cut_scan, underflow, ..Rules::DOCUMENT_01 }) != words
-        };
-        let class = if !changes(true, true) {
-            ties_differ(c.dimension).then_some(Class::TieOrder)
-        } else if changes(false, true) {
-            Some(Class::ScaleUnderflow)
+        let (class, holds) = if words_read(&c, slot, None) != words {
+            let e = Head::of(&c, slot).and_then(|head| head.e);
+            (Class::ScaleUnderflow, e.is_some_and(scale_underflows))
         } else {
-            changes(true, false).then_some(Class::CutScan)
+            (Class::TieOrder, ties_differ(c.dimension))
         };
-        self.must(class.is_some(), "a difference of no class in reading", p, || hex(slot));
-        class
+        self.must(holds, "a difference of no class in reading", p, || hex(slot));
+        Some(class)
     }
 
     /// Row 11 with libzfp as the judge: a slot is some block's exactly if libzfp writes it again for what it reads

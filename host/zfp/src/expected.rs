@@ -1,10 +1,10 @@
-//! What libzfp is expected to write and to read: document 01, changed where a class says so and nowhere else.
+//! What libzfp is expected to write and to read: what documents 01 and 02 say, changed where a class says so and nowhere else.
 //!
 //! This is what makes a class exact. libzfp's codes and words must be these in every comparison, so a difference
 //! that no class explains fails, and a class that says too much fails too.
 
 use crate::bits::padded;
-use crate::classes::{Head, cut_scan, scale_overflows, scale_underflows};
+use crate::classes::{Head, scale_overflows, scale_underflows};
 use crate::libzfp::longest_code;
 use crate::order::{Orders, reordered};
 use reference::code::{encode, float_planes};
@@ -94,43 +94,23 @@ fn reinterpreted(p: &Checked, words: &[u32]) -> Vec<bool> {
     code
 }
 
-/// Which of the classes of reading are in force.
-#[derive(Clone, Copy, Debug)]
-pub struct Rules<'a> {
-    /// A cut scan sets the bit at the place that it has come to.
-    pub cut_scan: bool,
-    /// A scale below 2^-149 is 0. In exact mode e = 0, which no writer writes, gives +0s whatever follows; libzfp's
-    /// documentation is silent about that, and we know it from trying it.
-    pub underflow: bool,
-    /// The coefficients stand in libzfp's order.
-    pub orders: Option<&'a Orders>,
-}
-
-impl<'a> Rules<'a> {
-    /// Document 01.
-    pub const DOCUMENT_01: Rules<'static> = Rules { cut_scan: false, underflow: false, orders: None };
-
-    /// libzfp.
-    pub fn libzfp(orders: &'a Orders) -> Rules<'a> {
-        Rules { cut_scan: true, underflow: true, orders: Some(orders) }
-    }
-}
-
 /// A slot as libzfp has it in exact mode, where it has no budget: zeros follow in its buffer, enough for any code.
 pub fn followed_by_zeros(p: &Checked, slot: &[bool]) -> Vec<bool> {
     padded(slot, slot.len() + longest_code(p.dimension))
 }
 
-/// The words that a slot reads as.
-pub fn words_read(p: &Checked, slot: &[bool], rules: Rules<'_>) -> Vec<u32> {
+/// The words that libzfp reads from a slot, in its own order of coefficients if the orders are given, else in document 01's.
+pub fn words_read(p: &Checked, slot: &[bool], orders: Option<&Orders>) -> Vec<u32> {
     let bits = if p.mode == Mode::Exact { followed_by_zeros(p, slot) } else { slot.to_vec() };
     let Some(head) = Head::of(p, &bits) else {
         return vec![0; p.block_len()];
     };
-    let integers = integers_read(p, &bits[head.len..], head.planes, rules);
+    let integers = integers_read(p, &bits[head.len..], head.planes, orders);
     match head.e {
-        Some(0) if rules.underflow && p.mode == Mode::Exact => vec![0; integers.len()],
-        Some(e) if rules.underflow && scale_underflows(e) => integers.into_iter().map(times_zero).collect(),
+        // In exact mode e = 0, which no writer writes, gives +0s whatever follows. libzfp's documentation is silent about
+        // that, and we know it from trying it.
+        Some(0) if p.mode == Mode::Exact => vec![0; integers.len()],
+        Some(e) if scale_underflows(e) => integers.into_iter().map(times_zero).collect(),
         Some(e) => integers.into_iter().map(|integer| to_pattern(e, integer)).collect(),
         None if head.flipped => integers.into_iter().map(flip).collect(),
         None => integers,
@@ -142,13 +122,9 @@ fn times_zero(integer: u32) -> u32 {
     integer & 0x8000_0000
 }
 
-fn integers_read(p: &Checked, bits: &[bool], count: u32, rules: Rules<'_>) -> Vec<u32> {
-    let len = p.block_len();
-    let (mut coefficients, _): (Vec<u32>, u32) = planes::read(bits, len, count);
-    if let Some(place) = cut_scan(bits, len, count).filter(|_| rules.cut_scan) {
-        coefficients[place.coefficient] |= 1 << place.plane;
-    }
-    if let Some(orders) = rules.orders {
+fn integers_read(p: &Checked, bits: &[bool], count: u32, orders: Option<&Orders>) -> Vec<u32> {
+    let (mut coefficients, _): (Vec<u32>, u32) = planes::read(bits, p.block_len(), count);
+    if let Some(orders) = orders {
         coefficients = orders.to_ours(&coefficients);
     }
     let step = if p.mode == Mode::Lossy { transform::unlift } else { transform::sums };

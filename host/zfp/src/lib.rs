@@ -10,6 +10,7 @@
 pub mod bits;
 pub mod classes;
 pub mod compare;
+pub mod cuts;
 pub mod expected;
 #[cfg(libzfp)]
 mod ffi;

@@ -97,6 +97,23 @@ pub fn reading(tally: &Tally) -> Vec<String> {
     with_classes(&titles, tally, Call::Read, |row| [&row.slots[..], &[row.words_equal]].concat())
 }
 
+/// The lossy slots that end in a scan; a line for each kind and dimension.
+pub fn cut_scans(tally: &Tally) -> Vec<String> {
+    let titles = ["kind", "dim.", "slots", "planes", "places", "budgets", "words equal", "C", "G"];
+    let mut lines =
+        vec![line(&titles.map(String::from)), format!("|---|{}", "---:|".repeat(titles.len() - 1))];
+    for (kind, mode, dimension, row) in tally.rows().filter(|row| row.1 == Mode::Lossy) {
+        let cut = &row.cut_scans;
+        let [kind, _, dimension] = cells(kind, mode, dimension);
+        let different = [cut.planes.len(), cut.places.len(), cut.budgets.len()].map(|count| count as u64);
+        let classes = [Class::ScaleUnderflow, Class::TieOrder].map(|class| cut.count(class));
+        let numbers = [&[cut.slots], &different[..], &[cut.words_equal], &classes].concat();
+        let numbers = numbers.into_iter().map(|number| number.to_string());
+        lines.push(line(&[kind, dimension].into_iter().chain(numbers).collect::<Vec<_>>()));
+    }
+    lines
+}
+
 /// The orders of coefficients.
 pub fn orders(lib: &Libzfp) -> Vec<String> {
     let mut lines = vec![

@@ -1,9 +1,10 @@
 //! The whole comparison, part by part.
 
 use crate::compare::Comparison;
+use crate::cuts::{Place, budgets, places, places_of};
 use crate::libzfp::{Libzfp, checked, longest_code};
 use crate::make::{MAKERS, any_block, block_of_field};
-use crate::slots::{damage, headed_slot, random_slot, slot_of_e};
+use crate::slots::{damage, headed_slot, random_slot, slot_cut_at, slot_of_e};
 use crate::tally::Origin;
 use random::Random;
 use reference::Params;
@@ -37,8 +38,17 @@ fn any_planes(random: &mut Random) -> u32 {
     if random.once_in(3) { 32 } else { random.between(1, 32) }
 }
 
-/// The widest slot.
+/// The narrowest and the widest slot.
+const NARROWEST: u32 = 16;
 const WIDEST: u32 = 8462;
+
+/// The bits before the planes of lossy floats.
+const LOSSY_HEAD: u32 = 9;
+
+/// Of many numbers all are tried in dimensions 1 and 2, in the others one in so many.
+fn step(p: &Params) -> u32 {
+    [1, 1, 5, 13][p.dimension as usize - 1]
+}
 
 /// Widths of every size: for lossy blocks mostly those that cut their codes, for exact ones mostly wide enough.
 fn any_width(random: &mut Random, p: &Params) -> u32 {
@@ -73,6 +83,7 @@ pub fn run(lib: Libzfp, seed: u64, scale: usize) -> Comparison {
     run.every_lowest();
     run.lowest_around_every_exponent();
     run.lowest_around_every_e();
+    run.every_cut_scan();
     run.comparison
 }
 
@@ -84,8 +95,8 @@ impl Run {
 
     /// The numbers up to `last`: all of them in dimensions 1 and 2, in the others some, of every remainder by 8.
     fn some_of(&mut self, p: &Params, last: u32) -> impl Iterator<Item = u32> + use<> {
-        let step = [1, 1, 5, 13][p.dimension as usize - 1];
-        (16 + self.random.word_below(step)..=last).step_by(step as usize)
+        let step = step(p);
+        (NARROWEST + self.random.word_below(step)..=last).step_by(step as usize)
     }
 
     fn every_way_of_making_blocks(&mut self) {
@@ -212,9 +223,8 @@ impl Run {
     /// Blocks of lossy floats with every q, in the larger dimensions with some.
     fn every_lowest(&mut self) {
         for p in lossy_floats() {
-            let step = [1, 1, 5, 13][p.dimension as usize - 1];
-            let first = MIN_LOWEST + self.random.word_below(step) as i32;
-            for lowest in (first..=MAX_LOWEST).step_by(step as usize).chain([MIN_LOWEST, MAX_LOWEST]) {
+            let first = MIN_LOWEST + self.random.word_below(step(&p)) as i32;
+            for lowest in (first..=MAX_LOWEST).step_by(step(&p) as usize).chain([MIN_LOWEST, MAX_LOWEST]) {
                 for _ in 0..2 * self.scale {
                     let width = any_width(&mut self.random, &p);
                     let p = Params { planes: any_planes(&mut self.random), width, lowest, ..p };
@@ -252,5 +262,34 @@ impl Run {
                 }
             }
         }
+    }
+
+    /// Slots that end in a scan: in every plane, at every place and with every budget, in the larger dimensions with some.
+    fn every_cut_scan(&mut self) {
+        for p in all_kinds().filter(|p| p.mode == LOSSY) {
+            let (len, head) = (block_len(&p), if p.kind == FLOATS { LOSSY_HEAD } else { 0 });
+            let widths = |place| (head + *budgets(place).start() as u32, head + *budgets(place).end() as u32);
+            let (_, widest) = widths(Place { plane: 0, coefficient: len - 2 });
+            for _ in 0..self.scale {
+                for place in places(len).step_by(step(&p) as usize) {
+                    let (least, most) = widths(place);
+                    if most >= NARROWEST {
+                        let width = self.random.between(least.max(NARROWEST), most);
+                        self.cut_scan(&p, width, place);
+                    }
+                }
+                for width in self.some_of(&p, widest) {
+                    let place = self.random.pick(&places_of(len, (width - head) as usize));
+                    self.cut_scan(&p, width, place);
+                }
+            }
+        }
+    }
+
+    fn cut_scan(&mut self, p: &Params, width: u32, place: Place) {
+        let p = Params { planes: self.random.between(32 - place.plane, 32), width, ..*p };
+        let e = self.random.word_below(256);
+        let slot = slot_cut_at(&mut self.random, &checked(&p), e, place);
+        self.comparison.read(&p, &slot, Origin::Made);
     }
 }

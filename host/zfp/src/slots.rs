@@ -1,6 +1,7 @@
 //! Slots to read that no store has written.
 
 use crate::bits::padded;
+use crate::cuts::{Place, cut_at};
 use random::Random;
 use reference::bits::number;
 use reference::params::{Checked, Kind, Mode};
@@ -42,6 +43,19 @@ pub fn slot_of_e(random: &mut Random, p: &Checked, e: u32) -> Vec<bool> {
     slot.extend(planes::code(&coefficients(random, p.block_len()), count));
     slot.truncate(p.width);
     padded(&slot, p.width)
+}
+
+/// A good head with this e, if there is one, then planes that end in a scan at this place. The slot is a lossy one.
+pub fn slot_cut_at(random: &mut Random, p: &Checked, e: u32, place: Place) -> Vec<bool> {
+    let mut slot = Vec::new();
+    if p.kind == Kind::Floats {
+        slot.push(true);
+        slot.extend(number(e, 8));
+    }
+    let coefficients = cut_at(random, p.block_len(), place, p.width - slot.len());
+    slot.extend(planes::code(&coefficients, p.planes));
+    slot.truncate(p.width);
+    slot
 }
 
 /// Negabinary words of some magnitude, some of them 0.

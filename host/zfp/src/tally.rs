@@ -1,8 +1,10 @@
 //! The counts of a comparison, for each kind, mode and dimension.
 
 use crate::classes::{Call, Class};
+use crate::cuts::Place;
 use reference::Params;
 use reference::params::{Checked, Kind, Mode};
+use std::collections::BTreeSet;
 use windlassow::MIN_LOWEST;
 
 /// Where a slot comes from.
@@ -44,6 +46,29 @@ pub struct Left {
     pub all: u64,
 }
 
+/// Lossy slots whose budget ends in a scan.
+#[derive(Clone, Debug, Default)]
+pub struct CutScans {
+    /// All of them.
+    pub slots: u64,
+    /// The planes in which the scans were.
+    pub planes: BTreeSet<u32>,
+    /// The places that they had come to.
+    pub places: BTreeSet<usize>,
+    /// The bits of planes that the slots had.
+    pub budgets: BTreeSet<usize>,
+    /// Slots that both read as the same words.
+    pub words_equal: u64,
+    classes: [u64; Class::ALL.len()],
+}
+
+impl CutScans {
+    /// The slots whose words differ in a class.
+    pub fn count(&self, class: Class) -> u64 {
+        self.classes[class.index()]
+    }
+}
+
 /// What was seen of one kind, mode and dimension.
 #[derive(Clone, Debug, Default)]
 pub struct Row {
@@ -61,6 +86,8 @@ pub struct Row {
     pub slots: [u64; ORIGINS],
     /// Slots that both read as the same words.
     pub words_equal: u64,
+    /// Slots that end in a scan.
+    pub cut_scans: CutScans,
     classes: [[u64; Class::ALL.len()]; Call::ALL.len()],
 }
 
@@ -82,6 +109,19 @@ impl Row {
             0 => left.none += 1,
             _ if planes < p.planes => left.fewer += 1,
             _ => left.all += 1,
+        }
+    }
+
+    /// Notes a slot that ends in a scan at this place, the bits of its planes, and the class, if its words differ.
+    pub fn note_cut_scan(&mut self, place: Place, budget: usize, class: Option<Class>) {
+        let cut = &mut self.cut_scans;
+        cut.slots += 1;
+        cut.planes.insert(place.plane);
+        cut.places.insert(place.coefficient);
+        cut.budgets.insert(budget);
+        match class {
+            Some(class) => cut.classes[class.index()] += 1,
+            None => cut.words_equal += 1,
         }
     }
 
@@ -125,7 +165,8 @@ impl Tally {
         })
     }
 
-    /// What is wrong with the classes: one that is stated and never occurs, or occurs where it is not stated.
+    /// What is wrong with the classes: one that is stated and never occurs, or occurs where it is not stated. Likewise with
+    /// the planes that q leaves, and with slots that end in a scan.
     pub fn complaints(&self) -> Vec<String> {
         let mut complaints = Vec::new();
         let every = || Call::ALL.into_iter().flat_map(|call| Class::ALL.map(|class| (call, class)));
@@ -137,6 +178,10 @@ impl Tally {
                         "{kind:?}, {mode:?}, dimension {dimension}: of q {none}, {fewer} and {all}"
                     ));
                 }
+            }
+            let cut = row.cut_scans.slots;
+            if (mode == Mode::Lossy) != (cut > 0) {
+                complaints.push(format!("{kind:?}, {mode:?}, dimension {dimension}: {cut} cut scans"));
             }
             for (call, class) in every() {
                 let count = row.count(call, class);

@@ -56,15 +56,11 @@ const fn witness(class: Class, params: Params, input: Input) -> Witness {
 }
 
 /// The examples, of dimension 1 where the class does not ask for more.
-pub const WITNESSES: [Witness; 13] = [
+pub const WITNESSES: [Witness; 11] = [
     // The smallest normal number, lossy: e = 2, so the factor is 2^155.
     witness(Class::ScaleOverflow, params(1, 0, 32), Input::Block(&[0x0080_0000; 4])),
     // The smallest subnormal number, exact: a multiple of 2^-156, so bits 1 0.
     witness(Class::ScaleOverflow, params(1, 1, 64), Input::Block(&[1; 4])),
-    // Fifteen empty planes, then a test answered 1 as the last bit of the slot.
-    witness(Class::CutScan, params(0, 0, 16), Input::OurSlot(&[0x0001_0000; 4])),
-    // e = 128 and six empty planes, then a test answered 1 as the last bit: the first coefficient is 0 or -2^25.
-    witness(Class::CutScan, params(1, 0, 16), Input::Slot(&[0x01, 0x81])),
     // e = 7 and the first coefficient 2^28: four times 2^-122.
     witness(Class::ScaleUnderflow, params(1, 0, 16), Input::Slot(&[0x0F, 0x30])),
     // Four subnormal numbers stored by the proved library.

@@ -8,7 +8,7 @@ use zfp::bits::{bits_of, padded};
 use zfp::classes::{Call, Class};
 use zfp::compare::Comparison;
 use zfp::libzfp::{Libzfp, longest_code};
-use zfp::report::{lowest, orders, planes as planes_asked, reading, writing};
+use zfp::report::{cut_scans, lowest, orders, planes as planes_asked, reading, writing};
 use zfp::run::run;
 use zfp::tally::Origin;
 use zfp::witness::WITNESSES;
@@ -55,6 +55,7 @@ fn every_difference_has_a_class() {
         is_reported(&planes_asked(&comparison.tally, call));
     }
     is_reported(&lowest(&comparison.tally));
+    is_reported(&cut_scans(&comparison.tally));
     is_reported(&orders(&comparison.lib));
     if is_long() {
         is_explained(&run(lib(), 2, 40));

@@ -122,8 +122,9 @@ fn lossy_integers_cut_by_planes_and_by_the_budget() {
     stores_and_reads(p(32, 36), &block, &format!("{empty} 110 1110"), 31, [-1, 1, 3, 5]);
     // The last test is not read, and would have been 0. The words are the same, but the plane is not whole.
     stores_and_reads(p(32, 35), &block, &format!("{empty} 110 111"), 30, [-1, 1, 3, 5]);
-    // A scan cut before its one sets no bit.
-    stores_and_reads(p(32, 34), &block, &format!("{empty} 110 11"), 30, [2, 2, 2, 2]);
+    // The scan is cut right after its test, so the bit is set at place 1. That is where the one was.
+    stores_and_reads(p(32, 34), &block, &format!("{empty} 110 11"), 30, [-1, 1, 3, 5]);
+    // The test is cut, and no bit is set.
     stores_and_reads(p(32, 33), &block, &format!("{empty} 110 1"), 30, [2, 2, 2, 2]);
     stores_and_reads(p(32, 32), &block, &format!("{empty} 110"), 30, [4, 4, 4, 4]);
 }

@@ -4,6 +4,7 @@ use crate::common::*;
 use crate::compare::*;
 use reference::{Params, bits};
 use std::collections::BTreeMap;
+use windlassow::MAX_WIDTH;
 
 /// Where the bits of a lossy slot end.
 #[derive(Clone, Copy, Debug, PartialEq, Eq, PartialOrd, Ord)]
@@ -124,6 +125,36 @@ impl Places {
 /// The bits of a slot.
 pub fn slot_bits(p: &Params, archive: &[u8], slot: usize) -> Vec<bool> {
     (slot * width_of(p)..(slot + 1) * width_of(p)).map(|t| bits::get(archive, t)).collect()
+}
+
+/// An archive that begins with these bits.
+pub fn archive_of(slot: &[bool]) -> Vec<u8> {
+    let mut archive = vec![0; slot.len().div_ceil(8)];
+    slot.iter().enumerate().for_each(|(t, &bit)| archive[t / 8] |= u8::from(bit) << (t % 8));
+    archive
+}
+
+/// On the library alone: a lossy slot that ends in a scan reads as if the one that is sought followed, which sets its bit at the
+/// place that the scan has come to, and any other slot as if a 0 did.
+pub fn reads_as_if_followed(p: &Params, slot: &[bool]) {
+    if p.width == MAX_WIDTH || p.kind == FLOATS && !slot[0] {
+        return;
+    }
+    let words = |p: Params, slot: &[bool]| {
+        let mut words = vec![NO_WORD; block_len(&p)];
+        windlassow::read(ours(&p), &archive_of(slot), 0, &mut words).expect("a lossy slot is read");
+        words
+    };
+    let (_, end) = walked(&slot[head_len(p.kind)..], block_len(p), planes_coded(p, slot));
+    let mut longer = slot.to_vec();
+    longer.push(matches!(end, End::Scan | End::ScanZeros));
+    let wider = Params { width: p.width + 1, ..*p };
+    assert_eq!(
+        words(*p, slot),
+        words(wider, &longer),
+        "{p:?} {end:?} {}",
+        shown_slot(p, &archive_of(slot), 0)
+    );
 }
 
 /// The planes that a done store or read of a slot must report. In exact mode p of the head; of floats that are a single 0

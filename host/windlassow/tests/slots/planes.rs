@@ -104,7 +104,7 @@ impl Cut {
         widths
     }
 
-    /// Stores, counts and reads in a slot of that width, and looks at the planes.
+    /// Stores, counts and reads in a slot of that width, and looks at the planes and at what the cut reads as.
     fn compare(&self, width: usize, seen: &mut Seen) {
         let p = Params { width: width as u32, ..self.p };
         let archive = vec![0xFF; width.div_ceil(8)];
@@ -114,6 +114,7 @@ impl Cut {
         assert_eq!(planes as usize, whole, "{p:?} {:x?}", self.words);
         let mut slot = self.code[..self.code.len().min(width)].to_vec();
         slot.resize(width, false);
+        reads_as_if_followed(&p, &slot);
         seen.count(&p, &slot, planes);
         let begins = if whole == 0 { head_len(p.kind) } else { ends[whole - 1] };
         if whole < ends.len() && width > begins && !self.code[width..ends[whole]].contains(&true) {
@@ -224,9 +225,8 @@ fn planes_of_slots_that_no_store_has_written() {
 }
 
 fn compare_slot(p: &Params, slot: &[bool], seen: &mut Seen) {
-    let mut archive = vec![0; slot.len().div_ceil(8)];
-    slot.iter().enumerate().for_each(|(t, &bit)| archive[t / 8] |= u8::from(bit) << (t % 8));
-    let (given, _) = compare_read(p, &archive, 0, block_len(p));
+    let (given, _) = compare_read(p, &archive_of(slot), 0, block_len(p));
+    reads_as_if_followed(p, slot);
     seen.count(p, slot, given.planes);
 }
 

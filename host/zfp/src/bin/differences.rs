@@ -8,7 +8,7 @@ use std::process::ExitCode;
 use zfp::classes::Call;
 use zfp::compare::Comparison;
 use zfp::libzfp::Libzfp;
-use zfp::report::{lowest, orders, planes, reading, writing};
+use zfp::report::{cut_scans, lowest, orders, planes, reading, writing};
 use zfp::run::run;
 use zfp::witness::WITNESSES;
 
@@ -46,6 +46,7 @@ fn report(lib: Libzfp, scale: usize, seed: u64) -> ExitCode {
         "\nLossy floats with q above -300, by the planes left:\n\n{}",
         lowest(&comparison.tally).join("\n")
     );
+    println!("\nLossy slots that end in a scan:\n\n{}", cut_scans(&comparison.tally).join("\n"));
     println!("\nExamples:\n");
     let mut failures = comparison.tally.complaints();
     failures.append(&mut comparison.failures);
