@@ -5,7 +5,8 @@ use mathlib.Core.List.{List, [], _∷_, _++_, append-assoc}
 use Prim.Native.Nat.{ℕ, _-_, _^_, _≤_, _<_}
 use native.Mathlib.Nat.{le-trans}
 use native.Mathlib.Omega.{arith}
-use borrow.Author.Tests.{ne-eqb}
+use borrow.Author.Tests.{ne-eqb, leb-true, leb-false}
+use lib.Dec.{leb}
 use lib.Ieee.{binary32}
 use lib.ListN.{length, getD, take, drop, replicate, take-append-drop}
 use lib.Seq.{length-take-le}
@@ -28,6 +29,7 @@ use Rattle.codec.specs.Lowest.{planesAt, planesHeaded}
 use Rattle.codec.proofs.RoundTrip.{number-first, exponent-fits}
 use Rattle.codec.proofs.Lowest.{planes-at-most}
 use Rattle.codec.proofs.Uncut.{integers-kept, floats-kept}
+use Rattle.codec.proofs.Zeros.{zeros-read}
 use Rattle.params.specs.declared.Params.{Params}
 use Rattle.params.specs.Width.{float, exact, wordCount, widthOf}
 use Rattle.params.specs.Rows.{first}
@@ -37,7 +39,7 @@ use Rattle.slots.specs.Rows.{readRows}
 use Rattle.slots.specs.Outcome.{readOutcome}
 use Rattle.slots.proofs.RowLaws.{read-first}
 use Rattle.claims.specs.CutScan.{lossyHead, planesLeft, keptWords, NotCut, FirstBitZero, lossyCoefficients, StoredWhole, CutScans}
-use Rattle.claims.proofs.Lowest.{lossy-parts}
+use Rattle.claims.proofs.Lowest.{lossy-parts, none-stored}
 use Rattle.claims.proofs.Stored.{parts, at-place, storable, fits, depth-stored, slot-after}
 
 -- ---- a slot that begins with all planes
@@ -119,7 +121,7 @@ first-bit-zero p t lossy = let l = lossy-parts (float p) (exact p) lossy in rw (
 -- ---- a block that is stored with all its planes
 
 module _ (p : Params) (ws : List ℕ) (g : Good p) (lossy : exact p ≡ false) (finite : float p ≡ true → anySpecial binary32 ws ≡ false)
-    (some : 1 ≤ codedPlanes p ws) (all : depthOf p ws ≡ codedPlanes p ws) where
+    (all : depthOf p ws ≡ codedPlanes p ws) where
   abbrev e : ℕ
   e = blockExponent binary32 ws
 
@@ -129,13 +131,16 @@ module _ (p : Params) (ws : List ℕ) (g : Good p) (lossy : exact p ≡ false) (
   abbrev cs : List ℕ
   cs = lossyCoefficients p ws
 
+  abbrev Kept : Type 0
+  Kept = wordsOf p (padded (widthOf p) (codeOf p ws)) ≡ keptWords p e k cs
+
   planes-is : k ≡ planesLeft p e
   unfolding codedPlanes
   planes-is = rw lossy
 
-  code-is : codeOf p ws ≡ lossyHead p e ++ planesCode 32 k cs
+  code-is : 1 ≤ k → codeOf p ws ≡ lossyHead p e ++ planesCode 32 k cs
   unfolding codeOf depthOf definedCode lossyIntegers lossyFloats wholeWritten
-  code-is = go (float p) refl
+  code-is some = go (float p) refl
     where
       go : (x : Bool) → float p ≡ x → codeOf p ws ≡ lossyHead p e ++ planesCode 32 k cs
       go false q = rw (q, lossy) (all-uncut 32 k (widthOf p) _ (rw (q, lossy) at all))
@@ -154,22 +159,41 @@ module _ (p : Params) (ws : List ℕ) (g : Good p) (lossy : exact p ≡ false) (
         words = words-coefficients 32 false (p .dimension) _;
       }
 
-  pub stored-kept : wordsOf p (padded (widthOf p) (codeOf p ws)) ≡ keptWords p e k cs
-  stored-kept =
+  some-kept : 1 ≤ k → Kept
+  some-kept some =
       let zeros = replicate (widthOf p - length (codeOf p ws)) false in
-      let slot = ap (λ (c : List Bool). c ++ zeros) code-is ∙ append-assoc (lossyHead p e) (planesCode 32 k cs) zeros in
+      let slot = ap (λ (c : List Bool). c ++ zeros) (code-is some) ∙ append-assoc (lossyHead p e) (planesCode 32 k cs) zeros in
       rw (slot, planes-is) (not-cut p e cs zeros lossy (g .planes-to) (λ q. exponent-fits binary32 ws (finite q)) block .0)
+
+  -- of no planes a single 0 is stored, and zeros are what they stand for
+  none-kept : k ≡ 0 → Kept
+  none-kept none = go (float p) refl
+    where
+      go : (x : Bool) → float p ≡ x → Kept
+      go false q = absurd (omega (arith, g .planes-from, none, rw q at planes-is))
+      go true q =
+          let code = none-stored p ws (rw (q, lossy)) none .0 in
+          let read = first-bit-zero p (replicate (widthOf p - 1) false) (rw (q, lossy)) in
+          let zeros = floats-kept binary32 (p .dimension) 0 cs [] (block .long) (block .words) (omega arith) e (exponent-fits binary32 ws (finite q)) in
+          rw (code, none, q) (read ∙ sym (zeros-read binary32 (p .dimension) (in-order (p .dimension) (g .dimension)) _) ∙ rw q at zeros)
+
+  pub stored-kept : Kept
+  stored-kept = go (leb 1 k) refl
+    where
+      go : (x : Bool) → leb 1 k ≡ x → Kept
+      go true h = some-kept (leb-true 1 k h)
+      go false h = none-kept (omega (arith, leb-false 1 k h))
 
 stored-whole : StoredWhole
 unfolding readOutcome
-stored-whole p archive k ws before lossy done long some all =
+stored-whole p archive k ws before lossy done long all =
     let slot = padded (widthOf p) (codeOf p ws) in
     let s = slot-after p archive k ws (storable p archive k ws done) (fits p archive k ws done) in
     let none : first (readRows p (length archive) k slot (length ws)) ≡ 0 =
     read-first p (length archive) k (length ws) slot (parts p archive k ws done .0) ∙ rw lossy in
     let g = at-place p archive k ws done .good in
     let nine = storable p archive k ws done .1 in
-    rw (s, long, none) (stored-kept p ws g lossy (λ q. rw (q, lossy) at nine) some (sym (depth-stored p archive k ws done) ∙ all))
+    rw (s, long, none) (stored-kept p ws g lossy (λ q. rw (q, lossy) at nine) (sym (depth-stored p archive k ws done) ∙ all))
 
 pub cut-scans : CutScans
 cut-scans = (cut-scan, cut-test, cut-told, not-cut, (λ p slot rows lossy. begins p (good p rows) lossy slot), first-bit-zero, stored-whole)

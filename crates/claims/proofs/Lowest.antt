@@ -172,7 +172,7 @@ lossy-parts false x h = absurd (false≢true h)
 lossy-parts true false h = (refl, refl)
 lossy-parts true true h = absurd (false≢true h)
 
-none-stored : NoneStored
+pub none-stored : NoneStored
 unfolding codeOf depthOf
 none-stored p ws lossy none =
     let l = lossy-parts (float p) (exact p) lossy in

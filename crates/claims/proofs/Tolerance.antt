@@ -76,7 +76,7 @@ module _ (p : Params) (ws : List ℕ) (u : Uncut p ws) where
       → wordsOf p (padded (widthOf p) (codeOf p ws)) ≡ map (toPattern binary32 (blockExponent binary32 ws)) (values 32 false (p .dimension) (map (kept k) cs))
   kept-planes some =
       let l = lossy-parts (float p) (exact p) (u .lossy) in
-      rw (l .0) at (stored-kept p ws g (l .1) (λ q. u .finite) some all-reported)
+      rw (l .0) at (stored-kept p ws g (l .1) (λ q. u .finite) all-reported)
 
 lowest-weight : LowestWeight
 unfolding planesAt

@@ -86,7 +86,7 @@ abbrev pub StoredWhole : Type 0
 StoredWhole =
     (p : Params) (archive : List ℕ) (k : ℕ) (ws before : List ℕ)
     → exact p ≡ false → storeOutcome p archive k ws .answer ≡ 0 → length before ≡ length ws
-    → 1 ≤ codedPlanes p ws → storeOutcome p archive k ws .planes ≡ codedPlanes p ws
+    → storeOutcome p archive k ws .planes ≡ codedPlanes p ws
     → readOutcome p (length archive) k (slotIn p (storeOutcome p archive k ws .bits) k) before .words
     ≡ keptWords p (blockExponent binary32 ws) (codedPlanes p ws) (lossyCoefficients p ws)
 
