@@ -37,6 +37,8 @@ pub fn slots() -> Vec<ByHand> {
         integers(1, "000000000000 1 000", 13, &[1, -5, 5, -1], 17),
         // Ones at place 0 of planes 20 and 19. The scan of plane 19 comes to place 1: 2^19 and -2^19.
         integers(1, "00000000000 110 1 1", 12, &[-1, 1, 3, 5], 18),
+        // A one at place 0 of plane 17, and not the test after it.
+        integers(1, "00000000000000 1 1", 14, &[-1, -1, -1, -1], 17),
         // A one at place 0 of plane 19. Of plane 18 there is place 0, and not the test.
         integers(1, "000000000000 110 0", 13, &[-1, -1, -1, -1], 19),
         // Ones at places 0 and 1 of plane 21. Of plane 20 there is place 0, a one, and not place 1: -2^20 and -2^21.
