@@ -78,7 +78,7 @@ paper = (
 ours : Ours
 unfolding computed
 ours = (
-  (refl, refl),
+  (refl, refl, refl, refl, refl, refl),
   refl,
   (refl, refl),
   (refl, refl),

@@ -16,7 +16,7 @@ use Rattle.codec.proofs.Depth.{written-most, read-most}
 use Rattle.codec.proofs.Lowest.{planes-all, other-planes, other-unless}
 use Rattle.codec.proofs.Zeros.{zeros-read}
 use Rattle.params.specs.declared.Params.{Params}
-use Rattle.params.specs.Width.{float, exact, widthOf, slotsIn}
+use Rattle.params.specs.Width.{float, exact, zeroWidth, widthOf, slotsIn}
 use Rattle.params.specs.Lowest.{goodLowest, raised}
 use Rattle.slot_code.specs.Rules.{codedPlanes, readPlanes, codeOf, wordsOf, depthOf, depthIn}
 use Rattle.slots.specs.Outcome.{countOutcome, bitOutcome, storeOutcome, readOutcome}
@@ -135,7 +135,7 @@ others-before p other =
     (other-unless (float p) (exact p) other (p .planes))
 
 others-ignore : OthersIgnore
-unfolding countOutcome bitOutcome storeOutcome readOutcome slotsIn
+unfolding countOutcome bitOutcome storeOutcome readOutcome slotsIn zeroWidth
 others-ignore p other = (
   own,
   λ good. (

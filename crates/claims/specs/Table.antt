@@ -121,11 +121,20 @@ P12 = (f d room : List ℕ) → goodTables f d ≡ true → fpcReadOutcome f d (
 
 -- ---- rows of our own: slots
 
--- "W = 0 stands for 8N": 16 bytes have four slots in dimension 1 and one in dimension 2
+-- integers of a dimension and a mode, with W = 0
+abbrev widthZero : ℕ → ℕ → Params
+widthZero d mode = record { kind = 0; dimension = d; mode = mode; planes = 32; width = 0; lowest = 0 }
+
+-- "W = 0 stands for 8N" in lossy mode: 16 bytes have four slots in dimension 1 and one in dimension 2; "In exact mode 0 shall mean 33N + 14": 73 bytes have
+-- four slots in dimension 1, 72 have three; 68 bytes have one in dimension 2, 67 have none
 abbrev pub WidthZero : Type 0
 WidthZero =
-    (countOutcome (exactIntegersAt 0) 16 ≡ record { answer = 0; count = 4; planes = 0 })
-    × (countOutcome (record { kind = 0; dimension = 2; mode = 1; planes = 32; width = 0; lowest = 0 }) 16 ≡ record { answer = 0; count = 1; planes = 0 })
+    (countOutcome (widthZero 1 0) 16 ≡ record { answer = 0; count = 4; planes = 0 })
+    × (countOutcome (widthZero 2 0) 16 ≡ record { answer = 0; count = 1; planes = 0 })
+    × (countOutcome (widthZero 1 1) 73 ≡ record { answer = 0; count = 4; planes = 0 })
+    × (countOutcome (widthZero 1 1) 72 ≡ record { answer = 0; count = 3; planes = 0 })
+    × (countOutcome (widthZero 2 1) 68 ≡ record { answer = 0; count = 1; planes = 0 })
+    × (countOutcome (widthZero 2 1) 67 ≡ record { answer = 0; count = 0; planes = 0 })
 
 -- six bits of code and eleven of padding go between two neighbours of ones, at a width that is no multiple of 8
 abbrev pub BetweenNeighbours : Type 0

@@ -41,7 +41,7 @@ pub fn row(number: u32, applies: bool, rest: u32) -> u32
 }
 
 // Rows 1 to 5 and 13 of a call that allows the kinds and the modes from these on, and the dimensions up to `top`.
-fn parameter_row_of(kind: u32, mode: u32, top: u32, p: Params) -> u32
+pub fn parameter_row_of(kind: u32, mode: u32, top: u32, p: Params) -> u32
     ensures { λ r. ⌜ r ≡ first (parameterRowsOf kind mode top p) ⌝ }
 {
     let last = row(5, !good_width(p.width), row(13, !good_lowest(p.lowest), 0));

@@ -2,7 +2,7 @@
 ghost use mathlib.Core.Path.{_≡_};
 ghost use Prim.Native.Nat.{_≤_};
 ghost use Rattle.params.specs.Dimension.{Dimension};
-ghost use Rattle.params.specs.Width.{wordCount, widthOf, slotsIn};
+ghost use Rattle.params.specs.Width.{wordCount, zeroWidth, widthOf, slotsIn};
 use crate::Params;
 
 // N, for a good dimension.
@@ -13,6 +13,15 @@ pub fn word_count(p: Params) -> usize
     1 << (2 * p.dimension)
 }
 
+// What a width of 0 stands for, for a good dimension: full slots in exact mode.
+fn zero_width(p: Params) -> usize
+    requires { ⌜ Dimension (p .dimension) ⌝ }
+    ensures { λ r. ⌜ r ≡ zeroWidth p ⌝ }
+{
+    let n = word_count(p);
+    if p.mode == 1 { 33 * n + 14 } else { 8 * n }
+}
+
 // W, for a good dimension.
 pub fn width_of(p: Params) -> usize
     requires { ⌜ Dimension (p .dimension) ⌝ }
@@ -20,7 +29,7 @@ pub fn width_of(p: Params) -> usize
 {
     let width = p.width;
     if width == 0 {
-        8 * word_count(p)
+        zero_width(p)
     } else {
         width as usize
     }
