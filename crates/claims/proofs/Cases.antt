@@ -28,10 +28,11 @@ use Rattle.fpc_stream.specs.Reading.{decoded, coded, stepOf, read}
 use Rattle.fpc_stream.specs.Outcome.{delivered, readInto}
 use Rattle.fpc_stream.proofs.Rows.{good-tables, read-later}
 use Rattle.bits.specs.Stream.{write}
-use Rattle.params.specs.Width.{slotsIn}
+use Rattle.params.specs.Width.{zeroWidth, slotsIn}
 use Rattle.codec.specs.Lowest.{planesAt}
 use Rattle.slot_code.specs.Rules.{codedPlanes, readPlanes, codeOf, wordsOf, depthOf, depthIn}
 use Rattle.slots.specs.Outcome.{countOutcome, bitOutcome, storeOutcome, readOutcome, slotOf}
+use Rattle.copier.specs.Copy.{firstUnreadable, copied, copyOutcome}
 use Rattle.hex.specs.Digits.{hexDigit, digitValue}
 use Rattle.lines.specs.Line.{wellFormed, parametersOf, firstAnswer, answerLine, slotBytes, storedLine, blockLine}
 use Rattle.claims.specs.Table.{P12, Paper, Ours, Table}
@@ -42,9 +43,9 @@ unfolding plus minus half twiceLess nega unnega flip planeCode planeNext planesC
     lift unlift differ undiffer along cubeOrder stackOrder reorder restore coefficients values
     toInteger toPattern signed scaled whole ofBits toBits round planesNeeded exactPlanes lossyIntegers lossyFloats exactIntegers exactFloats definedCode
     readIntegers readExactFloats readLossyFloats readCode wholeWritten wholeLossyFloats wholeExactFloats wholeRead
-    planesAt codedPlanes readPlanes slotsIn codeOf wordsOf depthOf depthIn write countOutcome bitOutcome storeOutcome readOutcome slotOf
-    leadingZeros side fcmHash dfcmHash zeroBytes residual residualCode halfByte remaining pairBytes oddBytes stream decoded coded stepOf read
-    delivered
+    planesAt codedPlanes readPlanes zeroWidth slotsIn codeOf wordsOf depthOf depthIn write countOutcome bitOutcome storeOutcome readOutcome slotOf
+    firstUnreadable copied copyOutcome leadingZeros side fcmHash dfcmHash zeroBytes residual residualCode halfByte remaining pairBytes oddBytes stream
+    decoded coded stepOf read delivered
     flatMap hexDigit digitValue wellFormed parametersOf firstAnswer answerLine slotBytes storedLine blockLine
 computed = 0
 
@@ -104,6 +105,7 @@ ours = (
   (refl, refl, refl, refl),
   refl,
   (refl, refl, refl, refl, refl),
+  (refl, refl, refl, refl),
 )
 
 pub cases : Table

@@ -4,7 +4,7 @@ use mathlib.Core.Bool.{Bool, true, false, cond}
 use mathlib.Core.List.{List}
 use Prim.Native.Nat.{ℕ, suc, _+_, _*_, _≤_, _<_}
 use native.Mathlib.Decide.{decLe}
-use native.Mathlib.Nat.{le-trans, mul-le-mul-right, suc-mul}
+use native.Mathlib.Nat.{le-trans}
 use native.Mathlib.Omega.{arith}
 use borrow.Author.Tests.{ne-eqb}
 use lib.Arith.{lt-of-le-ne}
@@ -19,6 +19,7 @@ use Rattle.params.specs.Rows.{first, countRows}
 use Rattle.slot_code.specs.Rules.{codeOf}
 use Rattle.slots.specs.Rows.{bitRows, storeRows, readRows}
 use Rattle.slots.specs.Outcome.{countOutcome, bitOutcome, storeOutcome, readOutcome, slotIn, slotOf}
+use Rattle.slots.proofs.InSlot.{slots-apart}
 use Rattle.claims.specs.Demand1.{BitKept, RefusedStore, RefusedRead, RefusedSlotCount, RefusedBitCount, OtherSlot, Demand1}
 use Rattle.claims.proofs.Stored.{at-place}
 use Rattle.claims.proofs.FpcRefusals.{write-refusals, read-refusals}
@@ -36,10 +37,6 @@ refused-slot-count p size h = rw (ne-eqb (first (countRows p size)) 0 h)
 refused-bit-count : RefusedBitCount
 unfolding bitOutcome
 refused-bit-count p ws h = rw (ne-eqb (first (bitRows p ws)) 0 h)
-
--- so many whole slots end where the next one begins, or before
-slots-apart : (i j w : ℕ) → i < j → i * w + w ≤ j * w
-slots-apart i j w l = let m = mul-le-mul-right w l in omega (arith, m, suc-mul i w)
 
 refused-store : RefusedStore
 unfolding storeOutcome

@@ -10,4 +10,5 @@ pub mod Depth
 pub mod Lowest
 pub mod CutScan
 pub mod Tolerance
+pub mod Copy
 pub mod Listing

@@ -1,16 +1,14 @@
 -- What a store of a block does, where no row before 10 applies.
 use mathlib.Core.Path.{_≡_, refl, ap, _∙_}
 use mathlib.Core.Bool.{Bool, true, false, _&&_, cond}
-use mathlib.Core.List.{List, [], _∷_, _++_, append-nil}
-use Prim.Native.Nat.{ℕ, _+_, _-_, _*_, _≤_, _<_}
+use mathlib.Core.List.{List, [], _∷_}
+use Prim.Native.Nat.{ℕ, _+_, _*_, _≤_, _<_}
 use native.Mathlib.Omega.{arith}
 use borrow.Author.Tests.{ltb-false, le-ltb, lt-ltb}
 use lib.Dec.{ltb}
-use lib.ListN.{length, length-append, length-replicate, length-take, replicate}
-use lib.Seq.{slice, slice-empty}
+use lib.ListN.{length, length-take}
 use Rattle.bits.specs.Stream.{bitsOf, write}
 use Rattle.bits.proofs.StreamLaws.{length-bitsOf}
-use Rattle.bits.proofs.WriteLaws.{slice-write}
 use Rattle.codec.specs.Code.{padded}
 use Rattle.params.specs.declared.Params.{Params}
 use Rattle.params.specs.Width.{exact, widthOf}
@@ -23,6 +21,7 @@ use Rattle.slot_code.proofs.SlotLaws.{lossy-code}
 use Rattle.slots.specs.Rows.{storeRows}
 use Rattle.slots.specs.Outcome.{storeOutcome, slotIn}
 use Rattle.slots.proofs.RowLaws.{store-first}
+use Rattle.slots.proofs.InSlot.{slot-written}
 use Rattle.claims.specs.Demand3.{Storable, Takes, RefusesAsTooLong}
 
 module _ (p : Params) (archive : List ℕ) (k : ℕ) (ws : List ℕ) where
@@ -49,21 +48,6 @@ module _ (p : Params) (archive : List ℕ) (k : ℕ) (ws : List ℕ) where
     pub depth-stored : storeOutcome p archive k ws .planes ≡ depthOf p ws
     unfolding storeOutcome
     depth-stored = rw done
-
-  -- the slot, where the padded code was written
-  slot-written : Placed p (length archive) k (length ws) → length (codeOf p ws) ≤ widthOf p
-      → slotIn p (write (bitsOf archive) (k * widthOf p) (k * widthOf p + widthOf p) (padded (widthOf p) (codeOf p ws))) k ≡ padded (widthOf p) (codeOf p ws)
-  slot-written place short =
-      let w = widthOf p in
-      let at = k * widthOf p in
-      let code = padded w (codeOf p ws) in
-      let zeros = w - length (codeOf p ws) in
-      let long : length code ≡ w = length-append (codeOf p ws) (replicate zeros false) ∙ omega (arith, length-replicate zeros false) in
-      let end : at + length code ≡ at + w = ap (λ (n : ℕ). at + n) long in
-      slice-write (bitsOf archive) at (at + w) (at + w) code (omega arith) (omega arith) (omega (arith, length-bitsOf archive, place .room))
-      ∙ ap (λ (n : ℕ). code ++ slice n (at + w) (bitsOf archive)) end
-      ∙ ap (λ (l : List Bool). code ++ l) (slice-empty (at + w) (bitsOf archive))
-      ∙ append-nil code
 
   module _ (s : Storable p archive k ws) where
     rows : first (storeRows p (length archive) k ws) ≡ first (row9 p ws ∷ row10 p ws ∷ [])
@@ -94,7 +78,9 @@ module _ (p : Params) (archive : List ℕ) (k : ℕ) (ws : List ℕ) where
 
     -- what stands in the slot afterwards
     pub slot-after : length (codeOf p ws) ≤ widthOf p → slotIn p (storeOutcome p archive k ws .bits) k ≡ padded (widthOf p) (codeOf p ws)
-    slot-after h = rw (stores h .1) (slot-written (placed p (length archive) k (length ws) (s .0)) h)
+    slot-after h =
+        let place = placed p (length archive) k (length ws) (s .0) in
+        rw (stores h .1) (slot-written p (bitsOf archive) k ws (omega (arith, length-bitsOf archive, place .room)) h)
 
 module _ (p : Params) (ws : List ℕ) where
   pub takes-fitting : length (codeOf p ws) ≤ widthOf p → Takes p ws

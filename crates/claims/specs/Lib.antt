@@ -9,4 +9,5 @@ pub mod Depth
 pub mod Lowest
 pub mod Tolerance
 pub mod CutScan
+pub mod Copy
 pub mod Listing

@@ -15,6 +15,7 @@ use Rattle.rounding.specs.Rounded.{toPattern}
 use Rattle.codec.specs.Code.{definedCode}
 use Rattle.params.specs.declared.Params.{Params}
 use Rattle.slots.specs.Outcome.{Fetched, countOutcome, bitOutcome, storeOutcome, readOutcome, slotIn, slotOf}
+use Rattle.copier.specs.Copy.{copyOutcome}
 use Rattle.fpc_stream.specs.Stream.{stream}
 use Rattle.fpc_stream.specs.Outcome.{goodTables, zeroed, fpcReadOutcome}
 use Rattle.frames.specs.Listing.{listing}
@@ -315,6 +316,21 @@ ListedBad =
     (textLine "0101002000300000" ++ textLine "7F800000000000000000000000000000" ++ textLine "7f800000000000000000000000000000" ++ text "00")
     ≡ textLine "0c000000" ++ textLine "09000000" ++ textLine "0c000000")
 
+-- ---- rows of our own: the copier
+
+-- P5's four floats 1.0 in slot 0 and four of 0.0 in slot 1, of the former 8N = 32 bits, go to slots of 146 bits, and the four bits past them stay; with a one
+-- in the padding of slot 1, 11 has its number, and a new archive of fewer bytes gets 14 before that; 3 for mode 0
+abbrev pub Copies : Type 0
+Copies =
+    let one : List ℕ = 0x01 ∷ 0x0a ∷ 0x0b ∷ 0x00 ∷ [] in
+    let new : List ℕ = replicate 37 0xff in
+    (copyOutcome (exactFloatsAt 32) (one ++ replicate 4 0) new
+    ≡ record { answer = 0; count = 2; planes = 0; bits = bitsOf (0x01 ∷ 0x0a ∷ 0x0b ∷ replicate 33 0 ++ (0xf0 ∷ [])) })
+    × (copyOutcome (exactFloatsAt 32) (one ++ (0x02 ∷ replicate 3 0)) new ≡ record { answer = 11; count = 1; planes = 0; bits = bitsOf new })
+    × (copyOutcome (exactFloatsAt 32) (one ++ (0x02 ∷ replicate 3 0)) (replicate 36 0xff)
+    ≡ record { answer = 14; count = 0; planes = 0; bits = bitsOf (replicate 36 0xff) })
+    × (copyOutcome (lossyFloatsAt 32) (one ++ replicate 4 0) new ≡ record { answer = 3; count = 0; planes = 0; bits = bitsOf new })
+
 -- ---- all
 
 abbrev pub Paper : Type 0
@@ -324,7 +340,7 @@ abbrev pub Ours : Type 0
 Ours =
     WidthZero × BetweenNeighbours × LossyFloats × Answers11 × OrderTold × NegativeHalved × RoundingTie × CutScan × CutTest × CutScanAtLast × CutVerbatim
     × FourAsThree × DfcmTaken × TieTakesFcm × OddThree × HashWraps × RampsTold × WidestSlots × PlanesWritten × PlanesFound × PlanesOfZeros
-    × PlanesLeft × NoPlanesRead × RowThirteen × Listed × ListedBad
+    × PlanesLeft × NoPlanesRead × RowThirteen × Listed × ListedBad × Copies
 
 abbrev pub Table : Type 0
 Table = Paper × Ours

@@ -1,6 +1,6 @@
 -- Slots of an archive gone through: a read of one, and a store into a full one. Assumes nothing.
 use mathlib.Core.Path.{_≡_, refl, sym, ap, _∙_}
-use mathlib.Core.Bool.{Bool, true, false, _&&_, cond}
+use mathlib.Core.Bool.{Bool, true, false, _&&_}
 use mathlib.Core.List.{List, [], _∷_}
 use Prim.Native.Nat.{ℕ, suc, _+_, _<_}
 use native.Mathlib.Nat.{le-trans}
@@ -14,7 +14,7 @@ use Rattle.params.specs.Width.{exact, widthOf}
 use Rattle.params.specs.Rows.{first, placeRows}
 use Rattle.params.proofs.RowLaws.{Good, sized}
 use Rattle.params.proofs.Passed.{place-passes}
-use Rattle.slot_code.specs.Rules.{codeOf, wordsOf, row9, row11}
+use Rattle.slot_code.specs.Rules.{codeOf, wordsOf, row11}
 use Rattle.slot_code.proofs.Exact.{full-fits}
 use Rattle.slots.specs.Outcome.{Stored, Fetched, storeOutcome, readOutcome, slotOf, withBlock}
 use Rattle.slots.specs.declared.Reply.{Reply}

@@ -3,6 +3,7 @@ ghost use mathlib.Core.Path.{_≡_};
 ghost use lib.ListN.{length};
 ghost use Rattle.slots.specs.Outcome.{countOutcome, bitOutcome, storeOutcome, readOutcome, slotOf};
 ghost use Rattle.slots.specs.Calls.{replied, stored, fetched};
+ghost use Rattle.copier.specs.Copy.{copyOutcome};
 ghost use Rattle.fpc_stream.specs.Outcome.{fpcWriteOutcome, fpcReadOutcome};
 ghost use Rattle.fpc.specs.Calls.{outcome};
 ghost use Rattle.windlassow.specs.Calls.{params};
@@ -104,6 +105,26 @@ pub extern "C" fn windlassow_bit_count(
 {
     let p = params_of(kind, dimension, mode, planes, width, lowest);
     slots::bit_count(p, words)
+}
+
+// The slots of the archive go to the new one, which has full slots.
+#[no_mangle]
+pub extern "C" fn windlassow_copy(
+    kind: u32,
+    dimension: u32,
+    mode: u32,
+    planes: u32,
+    width: u32,
+    lowest: u32,
+    archive: &[u8],
+    new: &mut [u8],
+) -> slots::Reply
+    ensures { λ r. ⌜
+        stored r (now (new .exit))
+        ≡ copyOutcome (params kind dimension mode planes width lowest) (now (archive .entry)) (now (new .entry)) ⌝ }
+{
+    let p = params_of(kind, dimension, mode, planes, width, lowest);
+    copier::copy(p, archive, new)
 }
 
 // The FPC writer.

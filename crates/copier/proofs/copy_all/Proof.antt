@@ -1,5 +1,5 @@
 -- Every slot is read; then row 11 with the first that cannot be, or all are copied. Assumes nothing.
-use mathlib.Core.Path.{sym, _∙_}
+use mathlib.Core.Path.{_∙_}
 use native.Mathlib.Omega.{arith}
 use lib.ListN.{length}
 use Rattle.params.proofs.RowLaws.{sized, slots-within}
@@ -12,7 +12,8 @@ use Rattle.copier.proofs.copy_all.Tie as tie
 slots-in-requires : tie.Need-slots-in-requires
 slots-in-requires c κs =
     let s = c .before .before .before in
-    let h = sized (s .args .p) (length (s .args .archive .now)) (ready (s .args .p) (length (s .args .archive .now)) (length (s .args .new .now)) (s .pre .0) .from) in
+    let size = length (s .args .archive .now) in
+    let h = sized (s .args .p) size (ready (s .args .p) size (length (s .args .new .now)) (s .pre .0) .from) in
     (h .0 .dimension, h .0 .width-from, h .1)
 
 first-unreadable-requires : tie.Need-first-unreadable-requires
@@ -25,8 +26,9 @@ answered-requires : tie.Need-answered-requires
 answered-requires c κs =
     let n = c .before .before .before .before .before in
     let s = n .before .before .before .before in
-    let h = sized (s .args .p) (length (s .args .archive .now)) (ready (s .args .p) (length (s .args .archive .now)) (length (s .args .new .now)) (s .pre .0) .from) in
-    omega (arith, c .if1 .taken, n .slots-in .ensures, h .1, slots-within (s .args .p) (length (s .args .archive .now)))
+    let size = length (s .args .archive .now) in
+    let h = sized (s .args .p) size (ready (s .args .p) size (length (s .args .new .now)) (s .pre .0) .from) in
+    omega (arith, c .if1 .taken, n .slots-in .ensures, h .1, slots-within (s .args .p) size)
 
 same-length : tie.Need-same-length
 same-length c = search needs
@@ -38,7 +40,8 @@ returns c =
     let n = found .before .before in
     let s = n .before .before .before .before in
     rw (c .answered .ensures)
-    (copy-unreadable (s .args .p) (s .args .archive .now) (s .args .new .now) (s .pre .0) (n .slots-in .ensures) (found .first-unreadable .ensures) (t .if1 .taken))
+    (copy-unreadable (s .args .p) (s .args .archive .now) (s .args .new .now) (s .pre .0) (n .slots-in .ensures) (found .first-unreadable .ensures)
+    (t .if1 .taken))
 
 copy-slots-requires : tie.Need-copy-slots-requires
 copy-slots-requires c κs =
@@ -53,8 +56,9 @@ answered-requires-2 : tie.Need-answered-requires-2
 answered-requires-2 c κs =
     let n = c .before .before .before .before .before .before .before .before .before .before .before .before in
     let s = n .before .before .before .before in
-    let h = sized (s .args .p) (length (s .args .archive .now)) (ready (s .args .p) (length (s .args .archive .now)) (length (s .args .new .now)) (s .pre .0) .from) in
-    omega (arith, n .slots-in .ensures, h .1, slots-within (s .args .p) (length (s .args .archive .now)))
+    let size = length (s .args .archive .now) in
+    let h = sized (s .args .p) size (ready (s .args .p) size (length (s .args .new .now)) (s .pre .0) .from) in
+    omega (arith, n .slots-in .ensures, h .1, slots-within (s .args .p) size)
 
 same-length-2 : tie.Need-same-length-2
 same-length-2 c = search needs

@@ -4,7 +4,7 @@ use Prim.Native.Nat.{_-_, _≤_}
 use native.Mathlib.Omega.{arith}
 use lib.ListN.{length}
 use Rattle.bits.specs.Stream.{bitsOf}
-use Rattle.copier.specs.Copy.{fullSlots, copied}
+use Rattle.copier.specs.Copy.{copied}
 use Rattle.copier.proofs.Slots.{copied-none, copied-more}
 use borrow.Author.Needs.{needs}
 use Rattle.copier.proofs.copy_slots.Statement.{statement}

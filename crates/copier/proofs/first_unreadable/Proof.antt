@@ -34,7 +34,8 @@ returns c =
     let l = turn .before .loop in
     let s = turn .before .before .before .before in
     let below = turn .loop-test .taken in
-    passed-here _ _ (l .inv .1) below (read-refused (s .pre) (l .k) below (slotOf (s .args .p) (s .args .archive .now) (l .k)) (l .words) (l .inv .0) (got .read .ensures) (c .if1 .taken))
+    let slot = slotOf (s .args .p) (s .args .archive .now) (l .k) in
+    passed-here _ _ (l .inv .1) below (read-refused (s .pre) (l .k) below slot (l .words) (l .inv .0) (got .read .ensures) (c .if1 .taken))
 
 add-k : tie.Need-add-k Inv-loop μ-loop
 add-k c = search needs
@@ -48,9 +49,10 @@ loop-again c =
     let turn = got .before .before in
     let l = turn .before .loop in
     let s = turn .before .before .before .before in
-    let below = turn .loop-test .taken in (
+    let below = turn .loop-test .taken in
+    let slot = slotOf (s .args .p) (s .args .archive .now) (l .k) in (
       got .read .kept .1 .1 .1 .0 ∙ l .inv .0,
-      passed-more _ _ (l .inv .1) below (read-done (s .pre) (l .k) below (slotOf (s .args .p) (s .args .archive .now) (l .k)) (l .words) (l .inv .0) (got .read .ensures) (c .if1 .left)),
+      passed-more _ _ (l .inv .1) below (read-done (s .pre) (l .k) below slot (l .words) (l .inv .0) (got .read .ensures) (c .if1 .left)),
     )
 
 same-length-2 : tie.Need-same-length-2 Inv-loop μ-loop
