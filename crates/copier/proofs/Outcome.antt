@@ -55,17 +55,16 @@ module _ (p : Params) (archive new : List ℕ) where
 
 -- ---- what is asked
 
-module _ (p : Params) (archive : List ℕ) (new : ℕ) {n words : ℕ} (none : first (sizeRows p (length archive) new) ≡ 0) (all : n ≡ slotsIn p (length archive))
-    (block : words ≡ wordCount p) where
-  pub slots-of : Slots p (length archive) n words
-  slots-of = record { rows = ready p (length archive) new none .from; within = omega (arith, all); block = block }
+module _ (p : Params) (archive : List ℕ) (new : ℕ) {n words : ℕ} (none : first (sizeRows p (length archive) new) ≡ 0) (block : words ≡ wordCount p) where
+  pub slots-of : n ≤ slotsIn p (length archive) → Slots p (length archive) n words
+  slots-of few = record { rows = ready p (length archive) new none .from; within = few; block = block }
 
-  pub copyable : {u : ℕ} → u ≡ firstUnreadable p archive 0 n → n ≤ u → Copyable p archive new n words
-  copyable {u} is h =
+  pub copyable : {u : ℕ} → n ≡ slotsIn p (length archive) → u ≡ firstUnreadable p archive 0 n → n ≤ u → Copyable p archive new n words
+  copyable {u} all is h =
       let r = ready p (length archive) new none in
       record {
         mode = r .mode;
-        from = slots-of;
+        from = slots-of (omega (arith, all));
         to = record { rows = r .to; within = omega (arith, all, r .enough); block = block };
         readable = omega (arith, is, unreadable-most p archive 0 n);
       }

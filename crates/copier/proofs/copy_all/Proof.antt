@@ -20,7 +20,7 @@ first-unreadable-requires : tie.Need-first-unreadable-requires
 first-unreadable-requires c κs =
     let n = c .before in
     let s = n .before .before .before .before in
-    slots-of (s .args .p) (s .args .archive .now) (length (s .args .new .now)) (s .pre .0) (n .slots-in .ensures) (s .pre .1)
+    slots-of (s .args .p) (s .args .archive .now) (length (s .args .new .now)) (s .pre .0) (s .pre .1) (omega (arith, n .slots-in .ensures))
 
 answered-requires : tie.Need-answered-requires
 answered-requires c κs =
@@ -49,8 +49,8 @@ copy-slots-requires c κs =
     let found = t .before .before .before in
     let n = found .before .before in
     let s = n .before .before .before .before in
-    copyable (s .args .p) (s .args .archive .now) (length (s .args .new .now)) (s .pre .0) (n .slots-in .ensures)
-    (found .first-unreadable .kept .1 .1 .1 .0 ∙ s .pre .1) (found .first-unreadable .ensures) (omega (arith, t .if1 .left))
+    copyable (s .args .p) (s .args .archive .now) (length (s .args .new .now)) (s .pre .0)
+    (found .first-unreadable .kept .1 .1 .1 .0 ∙ s .pre .1) (n .slots-in .ensures) (found .first-unreadable .ensures) (omega (arith, t .if1 .left))
 
 answered-requires-2 : tie.Need-answered-requires-2
 answered-requires-2 c κs =
