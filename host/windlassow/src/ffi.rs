@@ -74,6 +74,19 @@ unsafe extern "C" {
         words_len: usize,
     ) -> Reply;
 
+    fn windlassow_copy(
+        kind: u32,
+        dimension: u32,
+        mode: u32,
+        planes: u32,
+        width: u32,
+        lowest: i32,
+        archive: *const u8,
+        archive_len: usize,
+        new: *mut u8,
+        new_len: usize,
+    ) -> Reply;
+
     fn windlassow_fpc_write(
         f: *mut u64,
         f_len: usize,
@@ -163,6 +176,24 @@ pub fn bit_count(p: Params, words: &[u32]) -> Reply {
             p.lowest,
             words.as_ptr(),
             words.len(),
+        )
+    }
+}
+
+pub fn copy(p: Params, archive: &[u8], new: &mut [u8]) -> Reply {
+    // SAFETY: as above.
+    unsafe {
+        windlassow_copy(
+            p.kind,
+            p.dimension,
+            p.mode,
+            p.planes,
+            p.width,
+            p.lowest,
+            archive.as_ptr(),
+            archive.len(),
+            new.as_mut_ptr(),
+            new.len(),
         )
     }
 }

@@ -48,9 +48,10 @@ pub use blocks::{Block, Slots, Value, read_block, slots, store_block};
 pub use done::Done;
 pub use params::{Dimension, Kind, Mode, Params};
 pub use refusal::Refusal;
-use refusal::{fpc_outcome, outcome};
+use refusal::{copy_outcome, fpc_outcome, outcome};
 
-/// The least bits of a slot; fewer are refused with [`Refusal::InvalidWidth`], but 0 stands for 8 bits a word.
+/// The least bits of a slot; fewer are refused with [`Refusal::InvalidWidth`], but 0 stands for
+/// 33N + 14 in exact mode and for 8N in lossy mode.
 pub const MIN_WIDTH: u32 = 16;
 
 /// The most bits of a slot, which every block fits; more are refused with [`Refusal::InvalidWidth`].
@@ -171,6 +172,41 @@ pub fn slot_count(params: Params, archive: &[u8]) -> Result<usize, Refusal> {
 /// ```
 pub fn bit_count(params: Params, words: &[u32]) -> Result<Done, Refusal> {
     outcome(ffi::bit_count(params, words))
+}
+
+/// Copies an exact archive to a new one with slots of 33N + 14 bits, which every exact block fits: slot k to slot k. Gives the number
+/// of slots copied. The new archive is read with the same parameters and a width of 0.
+///
+/// The parameters are those that the old archive was written with. One that was written with a width of 0 before 0 stood for
+/// 33N + 14 is opened by naming 8N: `params.with_width(8 * n)`. Every slot of the old archive is read before one is written. The
+/// bits of `new` outside of the slots copied stay as they were.
+///
+/// # Errors
+/// Refusals 1 to 6 and 13; [`Refusal::InvalidMode`] for lossy mode too, [`Refusal::ArchiveTooLong`] for either buffer; then
+/// [`Refusal::TooFewSlots`], 14, and [`Refusal::UnreadableSlot`], 11, with the number of the first slot that cannot be read. A refused
+/// copy changes nothing.
+///
+/// ```
+/// use windlassow::{Dimension, Params, Refusal, copy, read, store};
+///
+/// let full = Params::exact_integers(Dimension::One);
+/// let old = full.with_width(48);
+/// let mut archive = [0u8; 12];
+/// store(old, &mut archive, 1, &[1; 4])?;
+///
+/// let mut new = vec![0u8; full.archive_len(2)?];
+/// assert_eq!(copy(old, &archive, &mut new), Ok(2));
+/// let mut back = [0u32; 4];
+/// read(full, &new, 1, &mut back)?;
+/// assert_eq!(back, [1; 4]);
+///
+/// archive[6..].fill(0xff);
+/// assert_eq!(copy(old, &archive, &mut new), Err(Refusal::UnreadableSlot { slot: 1 }));
+/// assert_eq!(copy(old, &archive, &mut new[..36]), Err(Refusal::TooFewSlots));
+/// # Ok::<(), Refusal>(())
+/// ```
+pub fn copy(params: Params, archive: &[u8], new: &mut [u8]) -> Result<usize, Refusal> {
+    copy_outcome(ffi::copy(params, archive, new))
 }
 
 /// Writes the FPC stream of a run of doubles, given as patterns, into `out` and gives its length in bytes.

@@ -108,9 +108,10 @@ impl Mode {
 /// assert_eq!(exact.archive_len(1000), Ok(18_250));
 /// assert_eq!(Params::exact_floats(Dimension::Four).slot_bits(), Ok(8_462));
 ///
-/// let narrow = exact.with_width(0);
-/// assert_eq!((narrow.width(), narrow.slot_bits()), (0, Ok(32)));
-/// assert_eq!(narrow, Params::from_numbers(1, 1, 1, 32, 0, -300));
+/// assert_eq!(exact.width(), 0);
+/// assert_eq!(exact, Params::from_numbers(1, 1, 1, 32, 0, -300));
+/// // Slots of 8N bits, as a width of 0 once had them.
+/// assert_eq!(exact.with_width(32).slot_bits(), Ok(32));
 /// assert_eq!(Params::from_numbers(2, 1, 1, 32, 0, -300).kind(), Err(Refusal::InvalidKind));
 /// ```
 #[derive(Clone, Copy, Debug, PartialEq, Eq, Hash)]
@@ -146,17 +147,16 @@ const fn largest_exponent(number: f64) -> Option<i32> {
 }
 
 impl Params {
-    /// Integers that come back bit for bit. The slots are 33N + 4 bits wide, which every block fits.
+    /// Integers that come back bit for bit. The width is 0, which stands for slots of 33N + 14 bits; every block fits them.
+    /// (Integers fit 33N + 4 bits too, the width that this constructor named before; `with_width` opens such an archive.)
     pub const fn exact_integers(dimension: Dimension) -> Params {
-        let width = 33 * dimension.block_len() as u32 + 4;
-        Params::new(Kind::Integers, dimension, Mode::Exact, ALL_PLANES, width)
+        Params::new(Kind::Integers, dimension, Mode::Exact, ALL_PLANES, 0)
     }
 
-    /// Float patterns that come back bit for bit, NaNs and -0 too. The slots are 33N + 14 bits wide, which every
-    /// block fits.
+    /// Float patterns that come back bit for bit, NaNs and -0 too. The width is 0, which stands for slots of 33N + 14 bits;
+    /// every block fits them.
     pub const fn exact_floats(dimension: Dimension) -> Params {
-        let width = 33 * dimension.block_len() as u32 + 14;
-        Params::new(Kind::Floats, dimension, Mode::Exact, ALL_PLANES, width)
+        Params::new(Kind::Floats, dimension, Mode::Exact, ALL_PLANES, 0)
     }
 
     /// Integers of which at most `planes` planes (1 to 32) are kept, in slots of `width` bits.
@@ -231,7 +231,8 @@ impl Params {
         Params { kind, dimension, mode, planes, width, lowest }
     }
 
-    /// The same with another width in bits: [`MIN_WIDTH`] to [`MAX_WIDTH`], or 0 for 8 bits a word.
+    /// The same with another width in bits: [`MIN_WIDTH`] to [`MAX_WIDTH`], or 0 for 33N + 14 in exact mode and 8N in lossy
+    /// mode.
     pub const fn with_width(self, width: u32) -> Params {
         Params { width, ..self }
     }
@@ -311,16 +312,17 @@ impl Params {
         }
     }
 
-    /// W, the bits of a slot: the width given, or 8N where that is 0.
+    /// W, the bits of a slot: the width given; where that is 0, 33N + 14 in exact mode and 8N in lossy mode.
     ///
     /// # Errors
-    /// [`Refusal::InvalidDimension`] if the dimension is not from 1 to 4, [`Refusal::InvalidWidth`] if the width is
-    /// neither 0 nor from [`MIN_WIDTH`] to [`MAX_WIDTH`].
+    /// [`Refusal::InvalidDimension`] if the dimension is not from 1 to 4, [`Refusal::InvalidMode`] if the mode is not 0 or 1,
+    /// [`Refusal::InvalidWidth`] if the width is neither 0 nor from [`MIN_WIDTH`] to [`MAX_WIDTH`].
     pub const fn slot_bits(self) -> Result<usize, Refusal> {
-        match (self.block_len(), self.width) {
-            (Err(refusal), _) => Err(refusal),
-            (Ok(n), 0) => Ok(8 * n),
-            (Ok(_), MIN_WIDTH..=MAX_WIDTH) => Ok(self.width as usize),
+        match (self.block_len(), self.mode(), self.width) {
+            (Err(refusal), _, _) | (_, Err(refusal), _) => Err(refusal),
+            (Ok(n), Ok(Mode::Exact), 0) => Ok(33 * n + 14),
+            (Ok(n), Ok(Mode::Lossy), 0) => Ok(8 * n),
+            (Ok(_), Ok(_), MIN_WIDTH..=MAX_WIDTH) => Ok(self.width as usize),
             _ => Err(Refusal::InvalidWidth),
         }
     }

@@ -9,7 +9,7 @@ use std::fmt::{self, Display, Formatter};
 /// both FPC tables zero.
 ///
 /// Each has the answer number of the project's rules, which [`Refusal::number`] gives. If several apply, the
-/// one of the lowest number is given, except that 13 comes between 5 and 6 and 23 before 22.
+/// one of the lowest number is given, except that 13 comes between 5 and 6, 14 before 11 and 23 before 22.
 #[derive(Clone, Copy, Debug, PartialEq, Eq, Hash)]
 #[non_exhaustive]
 pub enum Refusal {
@@ -17,7 +17,7 @@ pub enum Refusal {
     InvalidKind,
     /// 2: the dimension is not from 1 to 4.
     InvalidDimension,
-    /// 3: the mode is not 0 or 1.
+    /// 3: the mode is not 0 or 1, or not the one that the call is for.
     InvalidMode,
     /// 4: the number of planes is not from 1 to 32.
     InvalidPlanes,
@@ -38,8 +38,15 @@ pub enum Refusal {
         /// The bits that the code needs.
         bits: usize,
     },
+    /// 14: the new archive has fewer slots than the one that is copied.
+    TooFewSlots,
     /// 11: the slot holds no exact code.
     NotACode,
+    /// 11 of a copy: this slot of the old archive holds no exact code, and it is the first such slot.
+    UnreadableSlot {
+        /// The slot's number.
+        slot: usize,
+    },
     /// 20: the FPC tables are not of one length that is a power of two from 16 to 1,024.
     InvalidTables,
     /// 21: more than 4,096 doubles to write, or more than 65,536 bytes to read.
@@ -73,7 +80,8 @@ impl Refusal {
             Refusal::InvalidBlockLen => 8,
             Refusal::NotFinite => 9,
             Refusal::CodeTooLong { .. } => 10,
-            Refusal::NotACode => 11,
+            Refusal::TooFewSlots => 14,
+            Refusal::NotACode | Refusal::UnreadableSlot { .. } => 11,
             Refusal::InvalidTables => 20,
             Refusal::InputTooLong => 21,
             Refusal::OutputTooLong { .. } => 22,
@@ -112,6 +120,7 @@ impl Refusal {
             10 => Refusal::CodeTooLong { bits: count },
             11 => Refusal::NotACode,
             13 => Refusal::InvalidLowest,
+            14 => Refusal::TooFewSlots,
             20 => Refusal::InvalidTables,
             21 => Refusal::InputTooLong,
             22 => Refusal::OutputTooLong { needed: count },
@@ -125,7 +134,7 @@ impl Refusal {
         match self {
             Refusal::InvalidKind => "the kind is not 0 or 1, or not the one that the call is for",
             Refusal::InvalidDimension => "the dimension is not from 1 to 4",
-            Refusal::InvalidMode => "the mode is not 0 or 1",
+            Refusal::InvalidMode => "the mode is not 0 or 1, or not the one that the call is for",
             Refusal::InvalidPlanes => "the number of planes is not from 1 to 32",
             Refusal::InvalidWidth => "the width is neither 0 nor from 16 to 8,462",
             Refusal::InvalidLowest => "the lowest exponent is not from -300 to 300",
@@ -134,7 +143,8 @@ impl Refusal {
             Refusal::InvalidBlockLen => "the buffer of words has not the length of a block",
             Refusal::NotFinite => "a float to be stored lossy is infinite or not a number",
             Refusal::CodeTooLong { .. } => "the code is longer than the slot",
-            Refusal::NotACode => "the slot holds no exact code",
+            Refusal::TooFewSlots => "the new archive has fewer slots than the old one",
+            Refusal::NotACode | Refusal::UnreadableSlot { .. } => "the slot holds no exact code",
             Refusal::InvalidTables => {
                 "the tables are not of one length that is a power of two from 16 to 1,024"
             }
@@ -160,6 +170,17 @@ pub(crate) fn outcome(reply: Reply) -> Result<Done, Refusal> {
     Err(Refusal::from_numbers(answer, count))
 }
 
+/// The slots that were copied, or the refusal: with 11 the count is the number of the first slot that cannot be read.
+pub(crate) fn copy_outcome(reply: Reply) -> Result<usize, Refusal> {
+    let Reply { answer, count, planes } = reply;
+    debug_assert!(planes == 0, "{planes} planes with a copy");
+    match answer {
+        0 => Ok(count as usize),
+        11 => Err(Refusal::UnreadableSlot { slot: count as usize }),
+        _ => Err(Refusal::from_numbers(answer, count)),
+    }
+}
+
 /// The count of a done call on streams, or the refusal.
 pub(crate) fn fpc_outcome(reply: FpcReply) -> Result<usize, Refusal> {
     let FpcReply { answer, count } = reply;
@@ -171,6 +192,7 @@ impl Display for Refusal {
         out.write_str(self.text())?;
         match self {
             Refusal::CodeTooLong { bits } => write!(out, ": it needs {bits} bits"),
+            Refusal::UnreadableSlot { slot } => write!(out, ": slot {slot}"),
             Refusal::OutputTooLong { needed } => {
                 write!(out, ": it needs {needed} bytes to write, or doubles to read")
             }
