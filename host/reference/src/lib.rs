@@ -3,15 +3,16 @@
 //! It was written from the papers alone, apart from the proved one, so that a comparison of the two says
 //! something. It is written for clarity: bits are lists of `bool`, a slot is decoded and coded again to see
 //! whether it is a code, a stream likewise. Every module quotes the sentences that it follows: of document 01, and
-//! of the requests M-100, where it speaks of dimensions 3 and 4, M-101, where it speaks of planes written whole, and M-103,
-//! where it speaks of the lowest exponent.
+//! of the requests M-100, where it speaks of dimensions 3 and 4, M-101, where it speaks of planes written whole, M-103,
+//! where it speaks of the lowest exponent, and M-105, where it speaks of full slots and of the copier.
 //!
-//! The calls are [`store`], [`read`], [`slot_count`], [`bit_count`], [`fpc_write`], [`fpc_read`] and, for the
-//! listing program, [`listing()`]. The modules hold the pieces.
+//! The calls are [`store`], [`read`], [`slot_count`], [`bit_count`], [`copy()`], [`fpc_write`], [`fpc_read`] and, for
+//! the listing program, [`listing()`]. The modules hold the pieces.
 #![forbid(unsafe_code)]
 
 pub mod bits;
 pub mod code;
+pub mod copy;
 pub mod floats;
 pub mod fpc;
 pub mod listing;
@@ -22,6 +23,7 @@ pub mod slots;
 pub mod transform;
 pub mod words;
 
+pub use copy::copy;
 pub use fpc::{fpc_read, fpc_write};
 pub use listing::listing;
 pub use params::Params;

@@ -23,7 +23,7 @@ impl Reply {
         Reply { answer, count: 0, planes: 0 }
     }
 
-    /// A refusal that returns what was needed: 10. It reports 0 planes too.
+    /// A refusal that returns a number: 10 the bits that were needed, 11 of a copy the slot. It reports 0 planes too.
     pub fn needs(answer: u32, count: usize) -> Reply {
         Reply { answer, count: number(count), planes: 0 }
     }

@@ -65,17 +65,34 @@ fn the_longest_integer_block() {
     }
 }
 
+/// In lossy mode.
 #[test]
 fn width_0_is_8n() {
     for (dimension, n, width) in [(1, 4, 32), (2, 16, 128), (3, 64, 512), (4, 256, 2_048)] {
-        for mode in [LOSSY, EXACT] {
-            let words = vec![0x0100_0000; n];
-            let zero = params(INTEGERS, dimension, mode, 32, 0);
+        let words = vec![0x0100_0000; n];
+        let zero = params(INTEGERS, dimension, LOSSY, 32, 0);
+        let named = Params { width, ..zero };
+        assert_eq!(stored(&zero, &words), stored(&named, &words));
+        assert_eq!(bit_count(&zero, &words), bit_count(&named, &words));
+        // A slot is N bytes: a byte short of three are two.
+        assert_eq!(slot_count(&zero, &vec![0; 3 * n - 1]), done(2, 0));
+    }
+}
+
+/// In exact mode of both kinds. Four slots are 16N and N / 2 + 7 bytes; a byte less has three.
+#[test]
+fn width_0_is_33n_and_14_in_exact_mode() {
+    for (dimension, width, four) in [(1, 146, 73), (2, 542, 271), (3, 2_126, 1_063), (4, 8_462, 4_231)] {
+        for kind in [INTEGERS, FLOATS] {
+            let zero = params(kind, dimension, EXACT, 32, 0);
             let named = Params { width, ..zero };
-            assert_eq!(stored(&zero, &words), stored(&named, &words));
-            assert_eq!(bit_count(&zero, &words), bit_count(&named, &words));
-            // A slot is N bytes: a byte short of three are two.
-            assert_eq!(slot_count(&zero, &vec![0; 3 * n - 1]), done(2, 0));
+            for words in [by_hand::longest(dimension), vec![0x3F80_0000; 4usize.pow(dimension)]] {
+                assert_eq!(stored(&zero, &words), stored(&named, &words));
+                assert_eq!(stored(&zero, &words).0.answer, 0);
+                assert_eq!(bit_count(&zero, &words), bit_count(&named, &words));
+            }
+            assert_eq!(slot_count(&zero, &vec![0; four]), done(4, 0));
+            assert_eq!(slot_count(&zero, &vec![0; four - 1]), done(3, 0));
         }
     }
 }

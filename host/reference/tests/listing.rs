@@ -106,8 +106,15 @@ fn widths_that_are_no_whole_bytes() {
     let output = String::from_utf8(listing(input.as_bytes())).unwrap();
     assert_eq!(output.len(), 2 + 4 + 2 + 6 + 1);
     assert!(output.ends_with("00\n") || output.ends_with("01\n"));
-    // W = 0 stands for 8N: four bytes.
-    lists(b"0001012000000000\n00000000000000000000000000000000\n", "0000060100000000\n");
+    // W = 0 stands for 8N in lossy mode: four bytes. 32 empty planes.
+    lists(b"0001002000000000\n00000000000000000000000000000000\n", "0000202000000000\n");
+    // In exact mode it stands for 33N + 14, 146 bits: 19 bytes, of which six bits are spare.
+    let zeros = format!("00000601{}\n", "00".repeat(19));
+    let longest = format!("00008820{}{}\n", "ff".repeat(17), "00".repeat(2));
+    lists(
+        b"0001012000000000\n00000000000000000000000000000000\naaaaaaab55555556aaaaaaac55555558\n",
+        &(zeros + &longest),
+    );
 }
 
 #[test]

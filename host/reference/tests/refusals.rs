@@ -163,7 +163,7 @@ fn row_9_is_for_lossy_floats_only() {
 #[test]
 fn row_10_returns_the_bits_it_needs() {
     let words = [0xaaaaaaab, 0x55555556, 0xaaaaaaac, 0x55555558];
-    for width in [0, 16, 135] {
+    for width in [16, 32, 135] {
         let p = Params { width, ..GOOD };
         store_refused(&p, 34, 0, &words, too_long(136));
         assert_eq!(bit_count(&p, &words), done(136, 32));

@@ -16,9 +16,15 @@ fn lossy_read(kind: u32, planes: u32, width: u32, text: &str) -> ([u32; 4], u32)
 
 #[test]
 fn slot_counts() {
-    let p = params(INTEGERS, 1, EXACT, 32, 0);
+    let p = params(INTEGERS, 1, LOSSY, 32, 0);
     assert_eq!(slot_count(&p, &[0; 8]), done(2, 0));
     assert_eq!(slot_count(&Params { dimension: 2, ..p }, &[0; 17]), done(1, 0));
+    // 146 and 542 bits.
+    let p = params(INTEGERS, 1, EXACT, 32, 0);
+    assert_eq!(slot_count(&p, &[0; 36]), done(1, 0));
+    assert_eq!(slot_count(&p, &[0; 37]), done(2, 0));
+    assert_eq!(slot_count(&Params { dimension: 2, ..p }, &[0; 67]), done(0, 0));
+    assert_eq!(slot_count(&Params { dimension: 2, ..p }, &[0; 68]), done(1, 0));
     assert_eq!(slot_count(&Params { width: 17, ..p }, &[0; 65_536]), done(30_840, 0));
     assert_eq!(slot_count(&Params { width: 8_462, ..p }, &[0; 1_057]), done(0, 0));
     assert_eq!(slot_count(&Params { width: 8_462, ..p }, &[0; 65_536]), done(61, 0));
