@@ -15,29 +15,30 @@
  *
  * Answers
  *   If several refusals apply, the one of the lowest number is given, except that 13 comes between 5
- *   and 6 and 23 before 22.
+ *   and 6, 14 before 11 and 23 before 22.
  *
  *    no.  meaning                                                              count
  *     0   done                                                                 see each call
  *     1   the kind is not 0 or 1                                               0
  *     2   the dimension is not from 1 to 4                                     0
- *     3   the mode is not 0 or 1                                               0
+ *     3   the mode is not 0 or 1; of a copy, it is not 1                       0
  *     4   planes is not from 1 to 32                                           0
  *     5   width is neither 0 nor from 16 to 8,462                              0
  *    13   lowest is not from -300 to 300                                       0
- *     6   the archive is longer than 65,536 bytes                              0
+ *     6   the archive is longer than 65,536 bytes; of a copy, either one       0
  *     7   the archive has no slot of that number                               0
  *     8   the buffer of words has not the length of a block                    0
  *     9   lossy, floats: an infinity or a NaN is among the words               0
  *    10   exact: the code of the block is longer than the slot                 bits it needs
- *    11   exact: the slot holds no block's code followed by zeros              0
+ *    14   the new archive has fewer slots than the old one                     0
+ *    11   exact: the slot holds no block's code followed by zeros              0; of a copy the slot's number
  *    20   the FPC tables are not of one length, a power of two 16 to 1,024     0
  *    21   more than 4,096 doubles to write, or 65,536 bytes to read            0
  *    22   the output is longer than the room lent                              bytes or doubles it needs
  *    23   the bytes are not the FPC stream, for tables of this length, of any
  *         run of at most 4,096 doubles                                         0
  *
- *   Answers 1 to 11, 13, 20 and 21 leave every buffer as it was.
+ *   Answers 1 to 11, 13, 14, 20 and 21 leave every buffer as it was.
  *   Answers 22 and 23 leave the output as it was and both tables zero.
  *   Refusals report 0 planes, answer 10 too. The planes of a done call are with each call.
  *
@@ -56,7 +57,8 @@
  *              4: 256 words, four cubes in sequence, that of cube l at place i + 4j + 16k + 64l
  *   mode       0: lossy, the code is cut at the slot's end; 1: exact, the words come back bit for bit
  *   planes     the number of bit planes kept, 1 to 32; exact mode takes no other notice of it
- *   width      the bits W of a slot; 0 stands for 8 bits a word
+ *   width      the bits W of a slot; 0 stands for 33N + 14 bits in exact mode, a full slot, which every
+ *              block fits, and for 8 bits a word in lossy mode
  *   lowest     lossy floats: the lowest exponent q, -300 to 300. Of a block at most
  *              m - q + 2 x (dimension + 1) planes are kept, where m is the least number from -126 on such
  *              that all its values are below 2^m in magnitude. Values then come back within 1.5 x 2^q,
@@ -68,7 +70,7 @@
  * Limits
  *   words of a block, N           4, 16, 64, 256 in dimensions 1, 2, 3, 4
  *   planes, P                     1 to 32
- *   bits of a slot, W             16 to 8,462, or 0 for 8N
+ *   bits of a slot, W             16 to 8,462, or 0 for 33N + 14 in exact mode and 8N in lossy mode
  *   lowest exponent, q            -300 to 300
  *   bytes of an archive           65,536
  *   entries of an FPC table       a power of two from 16 to 1,024, the same for both
@@ -79,6 +81,11 @@
  *   Slot k starts at bit kW. Bit t of an archive is bit t mod 8 of byte t / 8, lowest first.
  *   The slot count is 8 x length / W, rounded down. Every exact block of N words fits a slot of
  *   33N + 4 bits (integers) or 33N + 14 bits (float patterns).
+ *
+ *   If you passed width 0 in exact mode before this header had windlassow_copy: it stood for 8 bits a
+ *   word there. Name that width, 8 x WINDLASSOW_BLOCK_LEN(dimension), for such an archive. With 0 its
+ *   slots are now sought at other places, and what stands there may be read as other blocks.
+ *   windlassow_copy takes it to full slots.
  *
  * Damage is not detected
  *   Answers 11 and 23 say that no block or run has these bits. They are no check of the bytes: a
@@ -122,6 +129,7 @@ enum {
     WINDLASSOW_INVALID_BLOCK_LEN = 8,
     WINDLASSOW_NOT_FINITE = 9,
     WINDLASSOW_CODE_TOO_LONG = 10,
+    WINDLASSOW_TOO_FEW_SLOTS = 14,
     WINDLASSOW_NOT_A_CODE = 11,
     WINDLASSOW_INVALID_TABLES = 20,
     WINDLASSOW_INPUT_TOO_LONG = 21,
@@ -149,9 +157,10 @@ enum { WINDLASSOW_STACK_BYTES = 80 * 1024 };
 /* The words N of a block. */
 #define WINDLASSOW_BLOCK_LEN(dimension) (1 << (2 * (dimension)))
 
-/* The widths that take every exact block of N words. */
+/* The widths that take every exact block of N words. That of floats is the full width of both kinds. */
 #define WINDLASSOW_EXACT_INTEGERS_WIDTH(n) (33 * (n) + 4)
 #define WINDLASSOW_EXACT_FLOATS_WIDTH(n) (33 * (n) + 14)
+#define WINDLASSOW_FULL_WIDTH(n) (33 * (n) + 14)
 
 /* Room for the stream of any run of n doubles, in bytes. */
 #define WINDLASSOW_STREAM_ROOM(n) (17 * (((n) + 1) / 2))
@@ -212,6 +221,18 @@ struct windlassow_reply windlassow_slot_count(
 struct windlassow_reply windlassow_bit_count(
     uint32_t kind, uint32_t dimension, uint32_t mode, uint32_t planes, uint32_t width, int32_t lowest,
     const uint32_t *words, size_t words_len);
+
+/*
+ * Copies an exact archive to a new one with full slots of 33N + 14 bits: the block of slot k goes to slot k.
+ * The parameters are those of the old archive; the new one is read with the same and width 0.
+ * Every slot is read before one is written. Of the new buffer only the slots copied change, and a refused
+ * copy changes nothing. A new buffer of (slots x WINDLASSOW_FULL_WIDTH(N) + 7) / 8 bytes is long enough.
+ * Answers 0 to 6, 13, 14 and 11. Count when done: the slots copied, all that the old archive has. Count of
+ * 11: the number of the first slot that cannot be read. Planes: 0. A copy is no check of the bytes, see above.
+ */
+struct windlassow_reply windlassow_copy(
+    uint32_t kind, uint32_t dimension, uint32_t mode, uint32_t planes, uint32_t width, int32_t lowest,
+    const uint8_t *archive, size_t archive_len, uint8_t *new_archive, size_t new_len);
 
 /*
  * Writes the FPC stream of a run of doubles, given as 64-bit patterns.

@@ -1,4 +1,4 @@
-/* The six calls of windlassow.h, on cases of the papers. Compiles as C99 and as C++. From the repository's folder:
+/* The seven calls of windlassow.h, on cases of the papers. Compiles as C99 and as C++. From the repository's folder:
  *   rt staticlib windlassow
  *   cc -I include host/c/example.c target/staticlib/libwindlassow.a -o target/example
  */
@@ -80,6 +80,25 @@ static void cubes(void) {
     print("bit_count", windlassow_bit_count(KIND, 5, MODE, PLANES, W, LOWEST, words, N));
 }
 
+/* An archive of 8 bits a word, which 0 once stood for in exact mode, and its copy with full slots, which take every block. */
+static void copy(void) {
+    enum { N = WINDLASSOW_BLOCK_LEN(1), SLOTS = 3, OLD = 8 * N, FULL = WINDLASSOW_FULL_WIDTH(N) };
+    const uint32_t readings[N] = {256, 256, 256, 256}, ones[N] = {1, 1, 1, 1};
+    uint8_t old[SLOTS * OLD / 8] = {0}, full[(SLOTS * FULL + 7) / 8];
+    uint32_t back[N];
+    print("store", windlassow_store(KIND, 1, MODE, PLANES, OLD, LOWEST, old, sizeof old, 1, readings, N));
+    print("store", windlassow_store(KIND, 1, MODE, PLANES, OLD, LOWEST, old, sizeof old, 2, ones, N));
+    print("copy", windlassow_copy(KIND, 1, MODE, PLANES, OLD, LOWEST, old, sizeof old, full, sizeof full));
+    print("read", windlassow_read(KIND, 1, MODE, PLANES, 0, LOWEST, full, sizeof full, 1, back, N));
+    printf("%d %d %d %d\n", (int)back[0], (int)back[1], (int)back[2], (int)back[3]);
+    print("store", windlassow_store(KIND, 1, MODE, PLANES, 0, LOWEST, full, sizeof full, 2, ones, N));
+    memset(old + 8, 0xff, 4);
+    print("copy", windlassow_copy(KIND, 1, MODE, PLANES, OLD, LOWEST, old, sizeof old, full, sizeof full));
+    struct windlassow_reply shorter = windlassow_copy(KIND, 1, MODE, PLANES, OLD, LOWEST, old, sizeof old, full, sizeof full - 1);
+    print("copy", shorter);
+    if (shorter.answer == WINDLASSOW_TOO_FEW_SLOTS) printf("the new archive has fewer slots than the old one\n");
+}
+
 static void fpc(void) {
     uint64_t f[16], d[16], back[2];
     const uint64_t run[2] = {0x3ff0000000000000, 0x3ff0000000000000};
@@ -102,6 +121,7 @@ int main(void) {
     lossy();
     tolerance();
     cubes();
+    copy();
     fpc();
     return 0;
 }

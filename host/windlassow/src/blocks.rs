@@ -124,7 +124,7 @@ pub fn read_block<T: Value, const N: usize>(
 /// let mut archive = vec![0; params.archive_len(3)?];
 /// store_block(params, &mut archive, 0, &[1i32, 2, 3, 4])?;
 /// store_block(params, &mut archive, 2, &[-5i32, -5, -5, -5])?;
-/// archive[33] = 0x80; // the last bit of slot 1: a one after its code
+/// archive[36] |= 0x08; // bit 291, the last one of slot 1: a one after its code
 ///
 /// let blocks = slots::<i32, 4>(params, &archive)?.map(|block| Ok(block?.values));
 /// let blocks: Vec<_> = blocks.collect();

@@ -181,6 +181,8 @@ pub fn bit_count(params: Params, words: &[u32]) -> Result<Done, Refusal> {
 /// 33N + 14 is opened by naming 8N: `params.with_width(8 * n)`. Every slot of the old archive is read before one is written. The
 /// bits of `new` outside of the slots copied stay as they were.
 ///
+/// A copy is no check of the bytes: a damaged slot that is another block's code is copied as that one.
+///
 /// # Errors
 /// Refusals 1 to 6 and 13; [`Refusal::InvalidMode`] for lossy mode too, [`Refusal::ArchiveTooLong`] for either buffer; then
 /// [`Refusal::TooFewSlots`], 14, and [`Refusal::UnreadableSlot`], 11, with the number of the first slot that cannot be read. A refused

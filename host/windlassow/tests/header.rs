@@ -28,6 +28,15 @@ store: answer 0, count 47, planes 32
 read: answer 0, count 256, planes 32
 1
 bit_count: answer 2, count 0, planes 0
+store: answer 0, count 31, planes 24
+store: answer 10, count 39, planes 0
+copy: answer 0, count 3, planes 0
+read: answer 0, count 4, planes 24
+256 256 256 256
+store: answer 0, count 39, planes 32
+copy: answer 11, count 2, planes 0
+copy: answer 14, count 0, planes 0
+the new archive has fewer slots than the old one
 fpc_write: answer 0, count 9
 07000000000000f03f
 fpc_read: answer 0, count 2
@@ -47,6 +56,9 @@ fpc_write: answer 20, count 0
 //
 // 15.625 to 15.71875 are written out in `testing::by_hand::planes::degrees`: with q = -1 there are 4 + 1 + 4 = 9 planes of
 // 1, 3, 4 x 2 and 3 x 2 bits after the head of 9, and the first coefficient is 2048 - 64 + 32 - 16 = 2000 parts of a degree.
+//
+// The 31 bits of four times 256, 2^8 in negabinary too: 5 bits of p - 1 = 23, planes 31 to 9 empty, 110. Four times 1 take 39
+// bits, as P2 has them, more than the 32 of a slot of 8 bits a word. Three full slots are 438 bits, 55 bytes; 54 have two.
 
 /// Compiles the example in a language, links and runs it, and compares what it prints.
 fn run_as(language: &str, standard: &str) {

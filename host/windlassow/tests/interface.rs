@@ -25,18 +25,21 @@ fn parameters_are_shown_as_they_were_given() {
     );
 }
 
-/// N, W for 0, and the widths that take every exact block of integers and of floats.
+/// N, and W for 0: of lossy blocks, and of exact ones, whose slots take every block.
 #[test]
 fn lengths_and_widths_of_every_dimension() {
-    let numbers =
-        [(4, 32, 136, 146), (16, 128, 532, 542), (64, 512, 2_116, 2_126), (256, 2_048, 8_452, 8_462)];
-    for (number, (dimension, (n, zero, integers, floats))) in (1..).zip(DIMENSIONS.into_iter().zip(numbers)) {
+    let numbers = [(4, 32, 146), (16, 128, 542), (64, 512, 2_126), (256, 2_048, 8_462)];
+    for (number, (dimension, (n, lossy, exact))) in (1..).zip(DIMENSIONS.into_iter().zip(numbers)) {
         let p = Params::from_numbers(0, number, 0, 32, 0, MIN_LOWEST);
         assert_eq!((p.dimension(), p.block_len()), (Ok(dimension), Ok(n)));
         assert_eq!(Params::lossy_integers(dimension, 32, 0), p);
-        assert_eq!((p.width(), p.slot_bits()), (0, Ok(zero)));
-        assert_eq!(Params::exact_integers(dimension).slot_bits(), Ok(integers));
-        assert_eq!(Params::exact_floats(dimension).slot_bits(), Ok(floats));
+        assert_eq!((p.width(), p.slot_bits()), (0, Ok(lossy)));
+        for p in [Params::exact_integers(dimension), Params::exact_floats(dimension)] {
+            assert_eq!((p.width(), p.slot_bits()), (0, Ok(exact)));
+            assert_eq!(p.with_width(lossy as u32).slot_bits(), Ok(lossy));
+        }
+        let other = Params::from_numbers(0, number, 2, 32, 0, MIN_LOWEST);
+        assert_eq!(other.slot_bits(), Err(Refusal::InvalidMode));
         for (width, bits) in
             [(15, None), (16, Some(16)), (8_462, Some(8_462)), (8_463, None), (u32::MAX, None)]
         {
@@ -175,6 +178,10 @@ fn texts_of_refusals() {
         Refusal::CodeTooLong { bits: 136 }.to_string(),
         "the code is longer than the slot: it needs 136 bits"
     );
+    assert_eq!((Refusal::UnreadableSlot { slot: 7 }).number(), 11);
+    assert_eq!(Refusal::UnreadableSlot { slot: 7 }.to_string(), "the slot holds no exact code: slot 7");
+    assert_eq!(Refusal::TooFewSlots.number(), 14);
+    assert_eq!(Refusal::TooFewSlots.to_string(), "the new archive has fewer slots than the old one");
     assert_eq!(Refusal::InvalidLowest.number(), 13);
     assert_eq!(Refusal::InvalidLowest.to_string(), "the lowest exponent is not from -300 to 300");
 }

@@ -9,7 +9,9 @@ use std::fmt::Debug;
 use std::ops::{Deref, DerefMut};
 use std::time::{Duration, Instant};
 use std::{fs, ptr, slice};
-use windlassow::{MIN_LOWEST, Params, Refusal, bit_count, fpc_read, fpc_write, read, slot_count, store};
+use windlassow::{
+    MIN_LOWEST, Mode, Params, Refusal, bit_count, copy, fpc_read, fpc_write, read, slot_count, store,
+};
 
 /// What a call may take. It is far more than a call takes, since the machine may be busy, and far less than a walk.
 const LIMIT: Duration = Duration::from_millis(50);
@@ -101,6 +103,9 @@ impl Slow {
     }
 }
 
+/// The bytes of a small archive: it has a slot of the widest, and no more than 264 of any.
+const SMALL: usize = 1_058;
+
 fn huge_archive() -> Mapped<u8> {
     Mapped::new(HUGE + 64)
 }
@@ -152,7 +157,7 @@ fn bad() -> Vec<(u32, Params)> {
 #[test]
 fn a_refused_store() {
     let mut slow = Slow::default();
-    let (mut archive, mut small) = (huge_archive(), [0; 256]);
+    let (mut archive, mut small) = (huge_archive(), [0; SMALL]);
     for (number, p) in bad() {
         let words = huge_words(1);
         slow.refused(number, &format!("store, bad parameters {p:?}"), || store(p, &mut archive, 0, &words));
@@ -162,7 +167,7 @@ fn a_refused_store() {
         let block = &words[..4usize.pow(dimension)];
         slow.refused(6, &format!("store, {what}, huge archive"), || store(p, &mut archive, 0, block));
         slow.refused(6, &format!("store, {what}, both huge"), || store(p, &mut archive, 0, &words));
-        for slot in [64, 1 << 32, usize::MAX] {
+        for slot in [300, 1 << 32, usize::MAX] {
             slow.refused(7, &format!("store, {what}, slot {slot}"), || store(p, &mut small, slot, &words));
         }
         slow.refused(8, &format!("store, {what}, huge words"), || store(p, &mut small, 0, &words));
@@ -173,7 +178,7 @@ fn a_refused_store() {
 #[test]
 fn a_refused_read() {
     let mut slow = Slow::default();
-    let (archive, small) = (huge_archive(), [0; 256]);
+    let (archive, small) = (huge_archive(), [0; SMALL]);
     for (number, p) in bad() {
         let mut words = huge_words(1);
         slow.refused(number, &format!("read, bad parameters {p:?}"), || read(p, &archive, 0, &mut words));
@@ -183,7 +188,7 @@ fn a_refused_read() {
         let mut block = vec![0; 4usize.pow(dimension)];
         slow.refused(6, &format!("read, {what}, huge archive"), || read(p, &archive, 0, &mut block));
         slow.refused(6, &format!("read, {what}, both huge"), || read(p, &archive, 0, &mut words));
-        for slot in [64, 1 << 32, usize::MAX] {
+        for slot in [300, 1 << 32, usize::MAX] {
             slow.refused(7, &format!("read, {what}, slot {slot}"), || read(p, &small, slot, &mut words));
         }
         slow.refused(8, &format!("read, {what}, huge words"), || read(p, &small, 0, &mut words));
@@ -214,6 +219,33 @@ fn a_refused_bit_count() {
     for (dimension, p, what) in good() {
         let words = huge_words(dimension);
         slow.refused(8, &format!("bit count, {what}, huge words"), || bit_count(p, &words));
+    }
+    slow.end();
+}
+
+/// The row of a copy: lossy mode is refused with 3, before all later rows.
+fn row_of_a_copy(number: u32, p: Params) -> u32 {
+    if number > 3 && p.mode() == Ok(Mode::Lossy) { 3 } else { number }
+}
+
+/// One buffer or both huge, and the longest archives with too few slots: the rows before 11 look at no slot.
+#[test]
+fn a_refused_copy() {
+    let mut slow = Slow::default();
+    let (archive, mut new) = (huge_archive(), huge_archive());
+    for (number, p) in bad() {
+        let number = row_of_a_copy(number, p);
+        slow.refused(number, &format!("copy, bad parameters {p:?}"), || copy(p, &archive, &mut new));
+    }
+    for (_, p, what) in good() {
+        let number = row_of_a_copy(6, p);
+        slow.refused(number, &format!("copy, {what}, both huge"), || copy(p, &archive, &mut new));
+        slow.refused(number, &format!("copy, {what}, old one huge"), || copy(p, &archive, &mut new[..SMALL]));
+        slow.refused(number, &format!("copy, {what}, new one huge"), || copy(p, &archive[..SMALL], &mut new));
+        let number = row_of_a_copy(14, p);
+        slow.refused(number, &format!("copy, {what}, too few slots"), || {
+            copy(p.with_width(16), &archive[..65_536], &mut new[..65_536])
+        });
     }
     slow.end();
 }

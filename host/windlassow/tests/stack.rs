@@ -8,8 +8,8 @@ use reference::{floats, transform};
 use std::thread;
 use testing::{EXACT, FLOATS, INTEGERS, LOSSY, by_hand};
 use windlassow::{
-    Done, MAX_RUN_LEN, MAX_STREAM_LEN, MAX_WIDTH, MIN_LOWEST, Params, STACK_BYTES, bit_count, fpc_read,
-    fpc_write, read, store,
+    Done, MAX_RUN_LEN, MAX_STREAM_LEN, MAX_WIDTH, MIN_LOWEST, Params, Refusal, STACK_BYTES, bit_count, copy,
+    fpc_read, fpc_write, read, store,
 };
 
 /// Does this in a thread of that stack.
@@ -89,6 +89,32 @@ fn stores_and_reads() {
         if mode == EXACT {
             assert_eq!(back, words);
         }
+    }
+}
+
+/// Archives of 256 words to full slots: a slot of each of the exact blocks above, and then one of ones that cannot be read.
+#[test]
+fn copies() {
+    for kind in [INTEGERS, FLOATS] {
+        let p = params(kind, EXACT);
+        let all = deepest().into_iter().chain(others()).filter(|block| (block.0, block.1) == (kind, EXACT));
+        let blocks: Vec<Vec<u32>> = all.map(|(_, _, words)| words).collect();
+        let mut archive = vec![0; p.archive_len(blocks.len() + 1).unwrap()];
+        blocks.iter().enumerate().for_each(|(slot, words)| {
+            store(p, &mut archive, slot, words).expect("the block fits");
+        });
+        let mut new = vec![0xFF; archive.len()];
+        let name = format!("copy, kind {kind}");
+        let copied = in_a_small_thread(&name, || copy(p, &archive, &mut new));
+        assert_eq!(copied, Ok(blocks.len() + 1));
+        for (slot, words) in blocks.iter().enumerate() {
+            let mut back = vec![0; 256];
+            assert!(read(p.with_width(0), &new, slot, &mut back).is_ok() && back == *words);
+        }
+        let bits = blocks.len() * MAX_WIDTH as usize;
+        archive[bits.div_ceil(8)..].fill(0xFF);
+        let refused = in_a_small_thread(&name, || copy(p, &archive, &mut new));
+        assert_eq!(refused, Err(Refusal::UnreadableSlot { slot: blocks.len() }));
     }
 }
 

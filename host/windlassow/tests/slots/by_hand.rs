@@ -192,15 +192,21 @@ fn minus_zeros_are_flipped_to_minus_ones() {
 
 #[test]
 fn slot_counts() {
-    let count = |dimension, width, bytes| {
-        let p = Params::from_numbers(0, dimension, 1, 32, width, MIN_LOWEST);
+    let count_in = |mode, dimension, width, bytes| {
+        let p = Params::from_numbers(0, dimension, mode, 32, width, MIN_LOWEST);
         slot_count(p, &vec![0; bytes]).map_err(|refusal| refusal.number())
     };
-    // W = 0 stands for 8N.
-    assert_eq!(count(1, 0, 11), Ok(2));
-    assert_eq!(count(2, 0, 47), Ok(2));
-    assert_eq!(count(3, 0, 191), Ok(2));
-    assert_eq!(count(4, 0, 767), Ok(2));
+    // W = 0 stands for 8N in lossy mode: a byte short of three slots.
+    for (dimension, bytes) in [(1, 11), (2, 47), (3, 191), (4, 767)] {
+        assert_eq!(count_in(0, dimension, 0, bytes), Ok(2));
+        assert_eq!(count_in(0, dimension, 0, bytes + 1), Ok(3));
+    }
+    // In exact mode for 33N + 14, 146, 542, 2,126 and 8,462 bits: four slots are whole bytes.
+    for (dimension, bytes) in [(1, 73), (2, 271), (3, 1_063), (4, 4_231)] {
+        assert_eq!(count_in(1, dimension, 0, bytes), Ok(4));
+        assert_eq!(count_in(1, dimension, 0, bytes - 1), Ok(3));
+    }
+    let count = |dimension, width, bytes| count_in(1, dimension, width, bytes);
     assert_eq!(count(1, 17, 65_536), Ok(30_840));
     assert_eq!(count(1, 8_462, 1_057), Ok(0));
     assert_eq!(count(4, 8_462, 65_536), Ok(61));

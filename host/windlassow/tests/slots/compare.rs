@@ -17,23 +17,6 @@ pub fn all_widths() -> impl Iterator<Item = u32> {
     std::iter::once(0).chain(MIN_WIDTH..=MAX_WIDTH)
 }
 
-/// `rounds(count)` for blocks of 4 words, and in each further dimension half as many: larger blocks take longer.
-pub fn rounds_in(dimension: u32, count: usize) -> usize {
-    rounds(count).div_ceil(1 << (dimension - 1))
-}
-
-pub fn block_len(p: &Params) -> usize {
-    4usize.pow(p.dimension)
-}
-
-pub fn width_of(p: &Params) -> usize {
-    if p.width == 0 { 8 * block_len(p) } else { p.width as usize }
-}
-
-pub fn ours(p: &Params) -> windlassow::Params {
-    windlassow::Params::from_numbers(p.kind, p.dimension, p.mode, p.planes, p.width, p.lowest)
-}
-
 /// Stores with both, compares the whole of the archives, and looks at the rules that need no comparison: a
 /// refused store changes nothing, a done one only its own slot, and the planes can be told from the slot. Gives the reply
 /// and the archive after it.

@@ -25,9 +25,9 @@ fn cases_of_document_01() {
     assert_eq!(archive[..7], [0, 0, 0, 0, 0, 0, 0xFF]);
     assert_eq!(windlassow::store(p(0, 1, 48), &mut archive, 0, &[1; 4]), done(39, 32));
     assert_eq!(archive[..7], [0x1f, 0, 0, 0, 0x30, 0, 0xFF]);
-    let mut archive = [0; 17];
+    let mut archive = [0; 19];
     assert_eq!(windlassow::store(p(0, 1, 136), &mut archive, 0, &longest), done(136, 32));
-    assert_eq!(archive, [0xFF; 17]);
+    assert_eq!(archive[..17], [0xFF; 17]);
     let refusal = windlassow::store(p(0, 1, 135), &mut archive, 0, &longest).unwrap_err();
     assert_eq!((refusal.number(), refusal.needed()), (10, Some(136)));
     assert_eq!(windlassow::store(p(1, 1, 0), &mut archive, 0, &[0x3F80_0000; 4]), done(21, 3));

@@ -1,7 +1,6 @@
 //! Blocks and archives to store and read.
 
 use crate::common::*;
-use crate::compare::*;
 use reference::{Params, transform};
 use testing::by_hand::indices;
 use windlassow::{MAX_WIDTH, MIN_WIDTH};
