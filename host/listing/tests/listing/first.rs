@@ -3,6 +3,7 @@
 use crate::make::{ALL_EXPONENTS, First, MOST, WRONG, line_of};
 use crate::run::{compare, lists};
 use random::{Random, is_long};
+use testing::by_hand::longest;
 
 const GOOD: &str = "0001012000300000\n";
 const ONES: &str = "00000001000000010000000100000001\n";
@@ -55,6 +56,35 @@ fn the_lowest_exponent_of_lossy_floats() {
         };
         let output = format!("{}\n{}\n09000000\n", cut(ones, "0101"), cut(small, "d900"));
         lists(format!("010100010010{digits}\n{floats}\n").as_bytes(), &output);
+    }
+}
+
+/// W = 0 stands for 33N + 14 in exact mode, both kinds, and for 8N in lossy mode. The slot is listed as whole bytes.
+#[test]
+fn a_width_of_0() {
+    for (dimension, n, exact) in [(1, 4, 19), (2, 16, 68), (3, 64, 266), (4, 256, 1_058)] {
+        let block = |word: &str| word.repeat(n) + "\n";
+        // 6 bits of zeros; 11111, 31 zeros and 110.
+        let zeros = format!("00000601{}\n", "00".repeat(exact));
+        let ones = format!("000027201f00000030{}\n", "00".repeat(exact - 5));
+        let input = format!("000{dimension}012000000000\n{}{}", block("00000000"), block("00000001"));
+        lists(input.as_bytes(), &(zeros + &ones));
+        // A single 0, and P5.
+        let zeros = format!("00000100{}\n", "00".repeat(exact));
+        let ones = format!("00001503010a0b{}\n", "00".repeat(exact - 3));
+        let input = format!("010{dimension}012000000000\n{}{}", block("00000000"), block("3f800000"));
+        lists(input.as_bytes(), &(zeros + &ones));
+        // 32 empty planes, of which N bytes take all.
+        let zeros = format!("00002020{}\n", "00".repeat(n));
+        lists(format!("000{dimension}002000000000\n{}", block("00000000")).as_bytes(), &zeros);
+        // The longest block, 33N + 4 ones. 8N bits are too few for it, and 33N + 4 enough.
+        let words: String = longest(dimension).iter().map(|word| format!("{word:08x}")).collect();
+        let ones = 33 * n + 4;
+        let code = format!("{}{}", "ff".repeat(ones / 8), if ones % 8 == 4 { "0f" } else { "" });
+        let done = format!("00{ones:04x}20{code}{}\n", "00".repeat(exact - code.len() / 2));
+        lists(format!("000{dimension}012000000000\n{words}\n").as_bytes(), &done);
+        let refused = format!("0a{ones:04x}00\n");
+        lists(format!("000{dimension}0120{:04x}0000\n{words}\n", 8 * n).as_bytes(), &refused);
     }
 }
 

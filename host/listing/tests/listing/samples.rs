@@ -2,7 +2,7 @@
 
 use crate::run::through_pipe;
 use std::fs;
-use testing::repository;
+use testing::{bits, repository};
 
 fn sample(name: &str) -> (String, String) {
     let folder = repository().join("samples");
@@ -12,7 +12,7 @@ fn sample(name: &str) -> (String, String) {
 
 #[test]
 fn the_samples_list_as_they_should() {
-    for name in ["blocks", "floats", "squares", "cubes", "stacks", "tolerance"] {
+    for name in ["blocks", "floats", "squares", "cubes", "stacks", "tolerance", "full"] {
         let (input, output) = sample(name);
         assert_eq!(String::from_utf8(reference::listing(input.as_bytes())).unwrap(), output, "the reference");
         assert_eq!(String::from_utf8(through_pipe(input.as_bytes()).stdout).unwrap(), output, "{name}");
@@ -71,6 +71,36 @@ fn a_tolerance_of_half_a_tenth_of_a_degree() {
     assert_eq!(lines[5], (&*"3b03126f".repeat(4), &*format!("00000a01ef{}", "0".repeat(36))));
     // 2^24: m is 25, and P is smaller than 34.
     assert!(lines[8].0.starts_with("4b800000") && lines[8].1[6..].starts_with("20"));
+}
+
+/// The line of a code with so many planes, in a slot of so many bytes.
+fn listed(code: &[bool], planes: u32, bytes: usize) -> String {
+    let mut slot = vec![0u8; bytes];
+    code.iter().enumerate().for_each(|(t, &bit)| slot[t / 8] |= u8::from(bit) << (t % 8));
+    let digits: String = slot.iter().map(|byte| format!("{byte:02x}")).collect();
+    format!("00{:04x}{planes:02x}{digits}", code.len())
+}
+
+/// samples/full.txt has exact integers and W = 0, full slots of 33N + 14 bits: 146, which are 19 bytes. In slots of 8N bits, 32, the
+/// first two lines would have been answered 10.
+#[test]
+fn full_slots() {
+    let (input, output) = sample("full");
+    assert!(input.starts_with("0001012000000000\n"));
+    let lines: Vec<_> = input.lines().skip(1).zip(output.lines()).collect();
+    // P2, 11111, 31 zeros and 110; P3, 136 ones; zeros, P1.
+    assert_eq!(lines[0], (&*"00000001".repeat(4), &*format!("000027201f00000030{}", "00".repeat(14))));
+    let longest = format!("00008820{}0000", "ff".repeat(17));
+    assert_eq!(lines[1], ("aaaaaaab55555556aaaaaaac55555558", &*longest));
+    assert_eq!(lines[3], (&*"0".repeat(32), &*format!("00000601{}", "00".repeat(19))));
+    // Four times 256: p is 24, 23 as 11101, planes 31 to 9 empty, 110. 31 bits, which fit 32 too.
+    assert_eq!(lines[2], (&*"00000100".repeat(4), &*format!("00001f1817000030{}", "00".repeat(15))));
+    // 366 366 367 368 have the differences 366 0 1 -1, in negabinary 110 1011 0010, 0, 1 and 11. Planes 31 to 11 are empty. Plane 10
+    // is 110, the planes 9 to 2 are a bit of the first and a test. In plane 1 a scan passes two places to the last one; then all bits
+    // of plane 0 are leading ones.
+    let code = format!("11111 {} 110 1000100010100000 1100 0011", "0".repeat(21));
+    assert_eq!(lines[4], ("0000016e0000016e0000016f00000170", &*listed(&bits(&code), 32, 19)));
+    assert_eq!(lines.last().map(|line| line.1), Some("0c000000"));
 }
 
 /// The picture of README.md: fields of the input and of the output stand in one column, what they mean in another.
