@@ -45,6 +45,11 @@ impl Point {
     }
 }
 
+/// Exact integers in the narrowest slots that every block fits, 33N + 4 bits.
+fn narrowest(dimension: Dimension) -> Params {
+    Params::exact_integers(dimension).with_width(33 * dimension.block_len() as u32 + 4)
+}
+
 /// The medians of a store and of a read at each point, in nanoseconds a block.
 fn times(mut points: Vec<Point>) -> Vec<[f64; 2]> {
     let mut stores: Vec<Work> =
@@ -66,7 +71,7 @@ pub fn with_words() {
         print!(" {:>10} {:>7}", format!("{} words", dimension.block_len()), "a word");
     }
     println!();
-    let exact = DIMENSIONS.map(Params::exact_integers);
+    let exact = DIMENSIONS.map(narrowest);
     let lossy = exact.map(|p| Params::lossy_integers(p.dimension().expect("it is good"), 32, p.width()));
     let points = DIMENSIONS.iter().cycle().zip(exact.into_iter().chain(lossy));
     let points = points.map(|(&dimension, params)| Point::new(params, dimension, MAX_ARCHIVE_LEN, 0));
@@ -106,7 +111,7 @@ pub fn with_planes() {
     let columns: Vec<Vec<f64>> = dimensions
         .into_iter()
         .flat_map(|dimension| {
-            let width = Params::exact_integers(dimension).width();
+            let width = narrowest(dimension).width();
             let params = planes.map(|p| Params::lossy_integers(dimension, p as u32, width));
             let times = times(params.map(|p| Point::new(p, dimension, MAX_ARCHIVE_LEN, 0)).into());
             [0, 1].map(|call| times.iter().map(|time| time[call]).collect())

@@ -3,6 +3,7 @@
 //! Everything is measured in one run, the programs taking turns, and the ratios are given with their quartiles.
 #![forbid(unsafe_code)]
 
+mod copy;
 mod data;
 mod fpc;
 mod growth;
@@ -33,6 +34,7 @@ fn main() {
     }
     println!("{} rounds, medians of the times.\n", timing::ROUNDS);
     slots::table(lib.as_ref().ok());
+    copy::table();
     fpc::table();
     growth::with_words();
     growth::with_planes();

@@ -37,9 +37,9 @@ pub fn floats() -> Params {
     Params::exact_floats(Dimension::One)
 }
 
-/// Exact integers in slots that every block fits, 136 bits.
+/// Exact integers in the narrowest slots that every block fits, 33N + 4 = 136 bits.
 pub fn integers() -> Params {
-    Params::exact_integers(Dimension::One)
+    Params::exact_integers(Dimension::One).with_width(136)
 }
 
 /// Every sort of damage that the report has.

@@ -50,15 +50,20 @@ fn step(p: &Params) -> u32 {
     [1, 1, 5, 13][p.dimension as usize - 1]
 }
 
+/// The slot of 8 bits a value: W = 0 stands for it in lossy mode. In exact mode, where many blocks are too long for it, it is named.
+fn eight_a_value(p: &Params) -> u32 {
+    if p.mode == LOSSY { 0 } else { 8 * block_len(p) as u32 }
+}
+
 /// Widths of every size: for lossy blocks mostly those that cut their codes, for exact ones mostly wide enough.
 fn any_width(random: &mut Random, p: &Params) -> u32 {
     let longest = longest_code(p.dimension) as u32;
     let (narrow, about, any) =
         (random.between(16, 64), random.between(16, longest), random.between(16, WIDEST));
     if p.mode == LOSSY {
-        random.pick(&[0, narrow, about, about, longest, any])
+        random.pick(&[eight_a_value(p), narrow, about, about, longest, any])
     } else {
-        random.pick(&[0, about, longest, longest, longest, any])
+        random.pick(&[eight_a_value(p), about, longest, longest, longest, any])
     }
 }
 
@@ -115,7 +120,7 @@ impl Run {
     fn every_width(&mut self) {
         for p in all_kinds() {
             for _ in 0..self.scale {
-                for width in std::iter::once(0).chain(self.some_of(&p, WIDEST)) {
+                for width in std::iter::once(eight_a_value(&p)).chain(self.some_of(&p, WIDEST)) {
                     let p = Params { planes: any_planes(&mut self.random), width, ..p };
                     let words = any_block(&mut self.random, block_len(&p));
                     self.comparison.block(&p, &words);

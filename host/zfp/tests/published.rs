@@ -224,7 +224,7 @@ fn the_bound_on_the_error() {
     assert!(comparison.failures.is_empty());
 }
 
-/// Fixed rate r is a slot of r x N bits, so W = 0 is the rate 8; fixed precision is P planes and no budget.
+/// Fixed rate r is a slot of r x N bits, so W = 0 is the rate 8 in lossy mode; fixed precision is P planes and no budget.
 #[test]
 fn fixed_rate_and_fixed_precision() {
     let mut random = Random::new(7);
