@@ -43,10 +43,10 @@ fn floats_of_narrow_slots() {
     let p = params(FLOATS, 1, EXACT, 1, 21);
     let mut new = [0xFF; 37];
     assert_eq!(copy(&p, &archive, &mut new), done(2, 0));
-    let mut expected = vec![0; 37];
+    let mut expected = [0; 37];
     expected[..3].copy_from_slice(&[0x01, 0x0A, 0x0B]);
     expected[36] = 0xF0;
-    assert_eq!(new[..], expected[..]);
+    assert_eq!(new, expected);
 }
 
 /// Widths below, at and above 33N + 14, to a buffer of any bits: every block comes back from its own slot, and the bits past
