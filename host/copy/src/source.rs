@@ -167,8 +167,11 @@ mod tests {
         (params, archive)
     }
 
+    /// Something done to a file, which held these bytes.
+    type Meddle = fn(&Path, &[u8]);
+
     /// What becomes of the second pass where this is done to the file after the first.
-    fn second_pass(meddle: impl Fn(&Path, &[u8])) -> (Result<(), Failure>, Vec<u8>) {
+    fn second_pass(meddle: Meddle) -> (Result<(), Failure>, Vec<u8>) {
         let room = Room::new();
         let (params, archive) = archive();
         let path = room.path("old");
@@ -206,8 +209,8 @@ mod tests {
             fs::write(path, vec![0; old.len()]).unwrap();
             File::options().append(true).open(path).unwrap().set_modified(SystemTime::UNIX_EPOCH).unwrap();
         };
-        let ways: [&dyn Fn(&Path, &[u8]); 4] = [&shorter, &longer, &unreadable, &other];
-        for (way, meddle) in ways.iter().enumerate() {
+        let ways: [Meddle; 4] = [shorter, longer, unreadable, other];
+        for (way, meddle) in ways.into_iter().enumerate() {
             let failure = second_pass(meddle).0.expect_err(&format!("way {way}"));
             assert!(
                 failure.status == 1 && failure.message.contains("old changed while it was read"),
