@@ -72,7 +72,7 @@ impl Draft {
         self.file.sync_all()?;
         match &self.part {
             None => link::name(&self.file, &self.new)?,
-            Some(part) => fs::hard_link(part, &self.new)?,
+            Some(part) => fs::hard_link(part, &self.new).map_err(explained)?,
         }
         let settled = self.remove_part().and_then(|()| sync_folder(&self.folder));
         if settled.is_err() {
@@ -90,6 +90,16 @@ impl Drop for Draft {
     fn drop(&mut self) {
         let _ = self.remove_part();
     }
+}
+
+/// Some file systems, such as FAT, have neither files without a name nor files with two.
+fn explained(error: io::Error) -> io::Error {
+    if error.kind() == ErrorKind::AlreadyExists {
+        return error;
+    }
+    let message =
+        format!("{error}; a file system without hard links cannot take the new file, so name one elsewhere");
+    io::Error::new(error.kind(), message)
 }
 
 /// Some file systems cannot do this for a folder, and say so.
@@ -112,12 +122,21 @@ mod tests {
     const WAYS: [(&str, Make); 3] =
         [("unnamed", Draft::unnamed), ("part", Draft::part), ("chosen", Draft::new)];
 
+    /// A draft of "new" in a folder of its own, made in each way that the file system has.
+    fn drafts() -> impl Iterator<Item = (&'static str, Room, Draft)> {
+        WAYS.into_iter().filter_map(|(way, make)| {
+            let room = Room::new();
+            match make(&room.path("new"), 0o600) {
+                Err(error) if way == "unnamed" && error.kind() == ErrorKind::Unsupported => None,
+                made => Some((way, room, made.unwrap())),
+            }
+        })
+    }
+
     #[test]
     fn a_draft_gets_its_name_at_the_end() {
-        for (way, make) in WAYS {
-            let room = Room::new();
+        for (way, room, mut draft) in drafts() {
             let new = room.path("new");
-            let mut draft = make(&new, 0o600).unwrap();
             draft.write(b"first ").unwrap();
             draft.write(b"second").unwrap();
             assert!(!new.exists(), "{way}");
@@ -130,9 +149,7 @@ mod tests {
 
     #[test]
     fn a_draft_that_is_dropped_leaves_nothing() {
-        for (way, make) in WAYS {
-            let room = Room::new();
-            let mut draft = make(&room.path("new"), 0o600).unwrap();
+        for (way, room, mut draft) in drafts() {
             draft.write(b"half").unwrap();
             drop(draft);
             assert!(room.names().is_empty(), "{way}");
@@ -145,12 +162,10 @@ mod tests {
         let file = |new: &Path| fs::write(new, "other").unwrap();
         let folder = |new: &Path| fs::create_dir(new).unwrap();
         let link = |new: &Path| symlink("nothing", new).unwrap();
-        let comings: [&dyn Fn(&Path); 3] = [&file, &folder, &link];
-        for (way, make) in WAYS {
-            for (coming, come) in comings.iter().enumerate() {
-                let room = Room::new();
+        let comings: [fn(&Path); 3] = [file, folder, link];
+        for (coming, come) in comings.into_iter().enumerate() {
+            for (way, room, mut draft) in drafts() {
                 let new = room.path("new");
-                let mut draft = make(&new, 0o600).unwrap();
                 draft.write(b"ours").unwrap();
                 come(&new);
                 let error = draft.publish().expect_err("something has the name");
@@ -159,6 +174,17 @@ mod tests {
                 assert_eq!(fs::read(&new).ok().as_deref(), (coming == 0).then_some(&b"other"[..]), "{way}");
             }
         }
+    }
+
+    /// NEW.part that somebody takes away, here for want of a file system that has no links: the message says what to do.
+    #[test]
+    fn a_part_that_cannot_be_linked() {
+        let room = Room::new();
+        let draft = Draft::part(&room.path("new"), 0o600).unwrap();
+        fs::remove_file(room.path("new.part")).unwrap();
+        let error = draft.publish().expect_err("there is nothing to name");
+        assert!(error.to_string().contains("without hard links"), "{error}");
+        assert!(room.names().is_empty());
     }
 
     /// NEW.part is made anew or not at all.
