@@ -1,7 +1,6 @@
 //! The slots that cannot be read.
 
 use crate::console::Console;
-use crate::text::grouped;
 
 /// The ranges that a line names at most. So a file without one good slot takes no memory.
 const LINE: usize = 50;
@@ -33,16 +32,16 @@ impl Unreadable {
         let ranges = std::mem::take(&mut self.ranges);
         match ranges[..] {
             [] => {}
-            [(first, last)] if first == last => console.say(&format!("unreadable: slot {}", grouped(first))),
+            [(first, last)] if first == last => console.say(&format!("unreadable: slot {first}")),
             _ => console.say(&format!("unreadable: slots {}", listed(&ranges))),
         }
     }
 }
 
-/// "3, 7 to 9"
+/// "3, 1007 to 1009", with no commas within a number.
 fn listed(ranges: &[(u64, u64)]) -> String {
     let range = |&(first, last): &(u64, u64)| {
-        if first == last { grouped(first) } else { format!("{} to {}", grouped(first), grouped(last)) }
+        if first == last { first.to_string() } else { format!("{first} to {last}") }
     };
     ranges.iter().map(range).collect::<Vec<_>>().join(", ")
 }
@@ -63,9 +62,12 @@ mod tests {
     #[test]
     fn slots_are_listed_as_ranges() {
         assert_eq!(said([]), (0, String::new()));
-        assert_eq!(said([1_003]), (1, "windlassow copy: unreadable: slot 1,003\n".into()));
+        assert_eq!(said([1_003]), (1, "windlassow copy: unreadable: slot 1003\n".into()));
         assert_eq!(said([0, 1]), (2, "windlassow copy: unreadable: slots 0 to 1\n".into()));
-        assert_eq!(said([3, 7, 8, 9]), (4, "windlassow copy: unreadable: slots 3, 7 to 9\n".into()));
+        assert_eq!(
+            said([3, 1_007, 1_008]),
+            (3, "windlassow copy: unreadable: slots 3, 1007 to 1008\n".into())
+        );
     }
 
     /// All are named once, in lines that are not too long.

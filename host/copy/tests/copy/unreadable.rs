@@ -26,7 +26,7 @@ fn in_several_runs() {
     let bad = [0, 5, 6, 7, run - 1, run, run + 100, 2 * run, 2 * run + 10];
     let room = spoilt("floats", 1, 37, 2 * run + 11, &bad);
     let said = [
-        "unreadable: slots 0, 5 to 7, 3,583 to 3,584, 3,684, 7,168, 7,178",
+        "unreadable: slots 0, 5 to 7, 3583 to 3584, 3684, 7168, 7178",
         "old: 9 of 7,179 slots cannot be read with these parameters; nothing was written",
     ];
     lists(&room, &said, room.copy("floats", "1", "37"));
