@@ -20,7 +20,7 @@ use Rattle.params.specs.Dimension.{topDimension}
 use Rattle.params.specs.Width.{float, exact, wordCount, fullWidth, zeroWidth, widthOf, slotsIn}
 use Rattle.params.specs.Rows.{Row, first, parameterRowsOf, row6, row7, row8, countRows, placeRows}
 use Rattle.params.proofs.RowLists.{none, first-both, first-zero, first-some, first-other}
-use Rattle.params.proofs.RowLaws.{Good, placed, sized, zero-full}
+use Rattle.params.proofs.RowLaws.{placed, zero-full}
 use Rattle.slot_code.specs.Rules.{codeOf, wordsOf, depthOf, depthIn, codedPlanes, row11}
 use Rattle.slot_code.proofs.Exact.{full-fits}
 use Rattle.slot_code.proofs.Garbage.{words-block, padded-returns}
@@ -30,7 +30,7 @@ use Rattle.slots.specs.Outcome.{storeOutcome, readOutcome, ifDone, slotIn, slot
 use Rattle.slots.proofs.RowLaws.{store-first, store-refused}
 use Rattle.copier.specs.Copy.{fullSlots, firstUnreadable, copied, row14, sizeRows, anyUnreadable, copyRows, copyOutcome}
 use Rattle.copier.proofs.Unreadable.{readable-before, unreadable-is}
-use Rattle.copier.proofs.Ready.{Ready, ready}
+use Rattle.copier.proofs.Ready.{Ready, ready, full-good}
 use Rattle.copier.proofs.Copied.{copied-past, slot-copied}
 use Rattle.claims.specs.Copy.{ZeroWidth, NeverTooLong, BlocksEqual, OtherBitsStay, SlotsCounted, RefusedCopy, FirstUnreadable, NoSlots}
 use Rattle.claims.specs.Copy.{CopyNoPlanes, NoMore8Bits}
@@ -124,9 +124,6 @@ module _ (p : Params) (archive new : List ℕ) (done : copyOutcome p archive new
   wide : widthOf (fullSlots p) ≡ fullWidth p
   wide = zero-full (fullSlots p) (sizes .mode)
 
-  good : Good p
-  good = sized p (length archive) (sizes .from) .0
-
   -- the slots copied lie within the new archive
   room : slots * widthOf (fullSlots p) ≤ length (bitsOf new)
   unfolding slotsIn
@@ -153,10 +150,10 @@ module _ (p : Params) (archive new : List ℕ) (done : copyOutcome p archive new
 
     -- the new slot
     new-slot : slotIn (fullSlots p) (copyOutcome p archive new .bits) k ≡ full
-    new-slot = rw bits-copied (slot-copied p archive (bitsOf new) (sizes .mode) (good .dimension) slots k room below)
+    new-slot = rw bits-copied (slot-copied p archive (bitsOf new) (sizes .mode) (sizes .good .dimension) slots k room below)
 
     new-words : wordsOf (fullSlots p) full ≡ block
-    new-words = padded-returns (fullSlots p) (sized (fullSlots p) (length new) (sizes .to) .0) block (sizes .mode) (words-block p good slot)
+    new-words = padded-returns (fullSlots p) (full-good (sizes .good)) block (sizes .mode) (words-block p (sizes .good) slot)
 
     new-read : row11 (fullSlots p) full .applies ≡ false
     new-read =
@@ -170,9 +167,9 @@ module _ (p : Params) (archive new : List ℕ) (done : copyOutcome p archive new
 
     same-depth : depthIn (fullSlots p) full ≡ depthIn p slot
     same-depth =
-        depth-back (fullSlots p) (good .dimension) block (rw (sizes .mode))
+        depth-back (fullSlots p) (sizes .good .dimension) block (rw (sizes .mode))
         ∙ depth-full p block (sizes .mode)
-        ∙ sym (depth-back p (good .dimension) block (rw (sizes .mode)))
+        ∙ sym (depth-back p (sizes .good .dimension) block (rw (sizes .mode)))
         ∙ ap (depthIn p) old-slot
 
     equal : (before : List ℕ)

@@ -2,7 +2,7 @@
 use mathlib.Core.Path.{_≡_, refl, _∙_}
 use mathlib.Core.Bool.{true}
 use mathlib.Core.List.{List, [], _∷_}
-use Prim.Native.Nat.{ℕ, _≤_, _<_}
+use Prim.Native.Nat.{ℕ, _^_, _≤_, _<_}
 use native.Mathlib.Omega.{arith}
 use borrow.Author.Tests.{ltb-false, eq-eqb, le-ltb, lt-ltb}
 use Rattle.params.specs.declared.Params.{Params}
@@ -10,7 +10,7 @@ use Rattle.params.specs.Dimension.{topDimension}
 use Rattle.params.specs.Width.{exact, slotsIn}
 use Rattle.params.specs.Rows.{Row, first, parameterRowsOf, row6, countRows}
 use Rattle.params.proofs.RowLists.{none, first-both, first-some, first-zero}
-use Rattle.params.proofs.RowLaws.{Good, goodOf, zero-within}
+use Rattle.params.proofs.RowLaws.{Good, goodOf, zero-within, slots-within}
 use Rattle.params.proofs.Passed.{count-passes}
 use Rattle.copier.specs.Copy.{fullSlots, row14, sizeRows}
 
@@ -38,9 +38,12 @@ module _ (p : Params) (old new : ℕ) where
 -- what they pass
 pub record Ready (p : Params) (old new : ℕ) : Type 0 where
   pub mode : exact p ≡ true
+  pub good : Good p
+  pub short : old ≤ 65536
   pub from : first (countRows p old) ≡ 0
   pub to : first (countRows (fullSlots p) new) ≡ 0
   pub enough : slotsIn p old ≤ slotsIn (fullSlots p) new
+  pub few : slotsIn p old < 2 ^ 32
 
 -- good parameters are good with full slots
 pub full-good : {p : Params} → Good p → Good (fullSlots p)
@@ -64,9 +67,13 @@ ready p old new e =
     let s = first-both (parameterRowsOf 0 1 topDimension p) (rest p old new) refl e in
     let g = goodOf 0 1 topDimension p (omega arith) (s .0) in
     let h = none (rest p old new) refl (s .1) in
+    let short = ltb-false 65536 old (h .0) in
     record {
       mode = eq-eqb (p .mode) 1 (omega (arith, g .mode-from, g .good .mode));
-      from = count-passes p (g .good) old (ltb-false 65536 old (h .0));
+      good = g .good;
+      short = short;
+      from = count-passes p (g .good) old short;
       to = count-passes (fullSlots p) (full-good (g .good)) new (ltb-false 65536 new (h .1 .0));
       enough = ltb-false (slotsIn (fullSlots p) new) (slotsIn p old) (h .1 .1 .0);
+      few = omega (arith, short, slots-within p old);
     }

@@ -3,7 +3,6 @@ use mathlib.Core.Path.{sym, _∙_}
 use native.Mathlib.Omega.{arith}
 use lib.ListN.{length}
 use Rattle.params.specs.Dimension.{mostWords}
-use Rattle.params.proofs.RowLaws.{sized}
 use Rattle.slot_code.proofs.Space.{lent}
 use Rattle.copier.proofs.Ready.{ready}
 use Rattle.copier.proofs.Outcome.{copy-refused}
@@ -28,7 +27,7 @@ word-count-requires c κs =
     let fine = c in
     let a = fine .before .before .before .before .args in
     let none = sym (fine .before .size-row .ensures) ∙ fine .if1 .left in
-    let g = sized (a .p) (length (a .archive .now)) (ready (a .p) (length (a .archive .now)) (length (a .new .now)) none .from) .0 in
+    let g = ready (a .p) (length (a .archive .now)) (length (a .new .now)) none .good in
     g .dimension
 
 array-borrow-prefix-words : tie.Need-array-borrow-prefix-words
@@ -36,7 +35,7 @@ array-borrow-prefix-words c =
     let fine = c .before .before in
     let a = fine .before .before .before .before .args in
     let none = sym (fine .before .size-row .ensures) ∙ fine .if1 .left in
-    let g = sized (a .p) (length (a .archive .now)) (ready (a .p) (length (a .archive .now)) (length (a .new .now)) none .from) .0 in
+    let g = ready (a .p) (length (a .archive .now)) (length (a .new .now)) none .good in
     omega (arith, c .before .word-count .ensures, g .words-to)
 
 slice-aggregate-copy-all : tie.Need-slice-aggregate-copy-all
@@ -44,7 +43,7 @@ slice-aggregate-copy-all c =
     let fine = c .before .before .before in
     let a = fine .before .before .before .before .args in
     let none = sym (fine .before .size-row .ensures) ∙ fine .if1 .left in
-    let g = sized (a .p) (length (a .archive .now)) (ready (a .p) (length (a .archive .now)) (length (a .new .now)) none .from) .0 in
+    let g = ready (a .p) (length (a .archive .now)) (length (a .new .now)) none .good in
     sym (lent _ mostWords (omega (arith, c .before .before .word-count .ensures, g .words-to)))
 
 copy-all-requires : tie.Need-copy-all-requires
@@ -52,7 +51,7 @@ copy-all-requires c κs =
     let fine = c .before .before .before in
     let a = fine .before .before .before .before .args in
     let none = sym (fine .before .size-row .ensures) ∙ fine .if1 .left in
-    let g = sized (a .p) (length (a .archive .now)) (ready (a .p) (length (a .archive .now)) (length (a .new .now)) none .from) .0 in
+    let g = ready (a .p) (length (a .archive .now)) (length (a .new .now)) none .good in
     (none, lent _ mostWords (omega (arith, c .before .before .word-count .ensures, g .words-to)) ∙ c .before .before .word-count .ensures)
 
 same-length : tie.Need-same-length

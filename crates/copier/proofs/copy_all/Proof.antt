@@ -2,7 +2,6 @@
 use mathlib.Core.Path.{_∙_}
 use native.Mathlib.Omega.{arith}
 use lib.ListN.{length}
-use Rattle.params.proofs.RowLaws.{sized, slots-within}
 use Rattle.copier.proofs.Ready.{ready}
 use Rattle.copier.proofs.Outcome.{copy-unreadable, copy-done, slots-of, copyable}
 use borrow.Author.Needs.{needs}
@@ -12,9 +11,8 @@ use Rattle.copier.proofs.copy_all.Tie as tie
 slots-in-requires : tie.Need-slots-in-requires
 slots-in-requires c κs =
     let s = c .before .before .before in
-    let size = length (s .args .archive .now) in
-    let h = sized (s .args .p) size (ready (s .args .p) size (length (s .args .new .now)) (s .pre .0) .from) in
-    (h .0 .dimension, h .0 .width-from, h .1)
+    let r = ready (s .args .p) (length (s .args .archive .now)) (length (s .args .new .now)) (s .pre .0) in
+    (r .good .dimension, r .good .width-from, r .short)
 
 first-unreadable-requires : tie.Need-first-unreadable-requires
 first-unreadable-requires c κs =
@@ -26,9 +24,8 @@ answered-requires : tie.Need-answered-requires
 answered-requires c κs =
     let n = c .before .before .before .before .before in
     let s = n .before .before .before .before in
-    let size = length (s .args .archive .now) in
-    let h = sized (s .args .p) size (ready (s .args .p) size (length (s .args .new .now)) (s .pre .0) .from) in
-    omega (arith, c .if1 .taken, n .slots-in .ensures, h .1, slots-within (s .args .p) size)
+    let r = ready (s .args .p) (length (s .args .archive .now)) (length (s .args .new .now)) (s .pre .0) in
+    omega (arith, c .if1 .taken, n .slots-in .ensures, r .few)
 
 same-length : tie.Need-same-length
 same-length c = search needs
@@ -56,9 +53,8 @@ answered-requires-2 : tie.Need-answered-requires-2
 answered-requires-2 c κs =
     let n = c .before .before .before .before .before .before .before .before .before .before .before .before in
     let s = n .before .before .before .before in
-    let size = length (s .args .archive .now) in
-    let h = sized (s .args .p) size (ready (s .args .p) size (length (s .args .new .now)) (s .pre .0) .from) in
-    omega (arith, n .slots-in .ensures, h .1, slots-within (s .args .p) size)
+    let r = ready (s .args .p) (length (s .args .archive .now)) (length (s .args .new .now)) (s .pre .0) in
+    omega (arith, n .slots-in .ensures, r .few)
 
 same-length-2 : tie.Need-same-length-2
 same-length-2 c = search needs
