@@ -26,11 +26,6 @@ module _ (p : Params) (archive : List ℕ) (new : List Bool) where
   abbrev block : ℕ → List ℕ
   block k = wordsOf p (slotOf p archive k)
 
-  length-copied : (n : ℕ) → length (copied p archive new n) ≡ length new
-  unfolding copied
-  length-copied zero = refl
-  length-copied (suc n) = length-write (copied p archive new n) (n * w) (n * w + w) (padded w (codeOf (fullSlots p) (block n))) ∙ length-copied n
-
   -- "other bits of the new buffer stay"
   pub copied-past : (n i : ℕ) → n * w ≤ i → getD (copied p archive new n) i false ≡ getD new i false
   unfolding copied
@@ -38,6 +33,11 @@ module _ (p : Params) (archive : List ℕ) (new : List Bool) where
   copied-past (suc n) i h =
       write-beyond (copied p archive new n) (n * w) (n * w + w) (padded w (codeOf (fullSlots p) (block n))) i false (omega (arith, suc-mul n w))
       ∙ copied-past n i (omega (arith, suc-mul n w))
+
+  length-copied : (n : ℕ) → length (copied p archive new n) ≡ length new
+  unfolding copied
+  length-copied zero = refl
+  length-copied (suc n) = length-write (copied p archive new n) (n * w) (n * w + w) (padded w (codeOf (fullSlots p) (block n))) ∙ length-copied n
 
   -- "slot k to slot k"
   pub slot-copied : exact p ≡ true → Dimension (p .dimension) → (n k : ℕ) → n * w ≤ length new → k < n
