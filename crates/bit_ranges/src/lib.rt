@@ -2,23 +2,24 @@
 ghost use mathlib.Core.Path.{_≡_};
 ghost use mathlib.Core.Bool.{false};
 ghost use Prim.Native.Nat.{_+_, _-_, _*_, _%_, _^_, _≤_, _<_};
-ghost use lib.ListN.{length, take, replicate};
+ghost use lib.ListN.{length, take, drop, replicate};
 ghost use Rattle.bits.specs.Stream.{bitsOf};
 ghost use Rattle.bits.specs.Writes.{mostWrites};
 ghost use Rattle.bits.specs.Calls.{Written};
 use bits::Cursor;
 
-// Writes the `count` first bits of `from`, a byte's share at a time.
-pub fn copy_bits(from: &[u8], count: usize, buf: &mut [u8], out: Cursor) -> Cursor
-    requires { ⌜ (count ≤ 8 * length (now from)) × (out .at + count ≤ 8 * length (now buf)) × (out .at + count < 2 ^ 32) × (out .writes ≤ out .at) ⌝ }
-    ensures { λ r. ⌜ Written (now (buf .entry)) (now (buf .exit)) out (out .at + count) (take count (bitsOf (now (from .entry)))) r
+// Writes the `count` bits of `from` that begin at bit `start`, a byte's share at a time.
+pub fn copy_bits(from: &[u8], start: usize, count: usize, buf: &mut [u8], out: Cursor) -> Cursor
+    requires { ⌜ (start + count ≤ 8 * length (now from)) × (start + count < 2 ^ 32) × (out .at + count ≤ 8 * length (now buf)) × (out .at + count < 2 ^ 32)
+        × (out .writes ≤ out .at) ⌝ }
+    ensures { λ r. ⌜ Written (now (buf .entry)) (now (buf .exit)) out (out .at + count) (take count (drop start (bitsOf (now (from .entry))))) r
         × (r .writes ≤ out .writes + mostWrites count) ⌝ }
 {
     let mut next = out;
     let mut i = 0;
     while i < count {
         let m = bits::piece(next.at, count - i);
-        let v = bits::get_bits(from, i, m);
+        let v = bits::get_bits(from, start + i, m);
         next = bits::put_part(buf, next, v, m);
         i += m;
     }

@@ -9,7 +9,7 @@ use lib.Dec.{eqb}
 use lib.ListN.{length}
 use Rattle.bits.specs.Stream.{bitsOf}
 use Rattle.params.specs.declared.Params.{Params}
-use Rattle.params.specs.Width.{wordCount, slotsIn}
+use Rattle.params.specs.Width.{slotsIn}
 use Rattle.params.specs.Rows.{first}
 use Rattle.params.proofs.RowLists.{first-zero, first-some, first-other}
 use Rattle.slots.specs.Outcome.{Stored}
@@ -55,16 +55,16 @@ module _ (p : Params) (archive new : List ℕ) where
 
 -- ---- what is asked
 
-module _ (p : Params) (archive : List ℕ) (new : ℕ) {n words : ℕ} (none : first (sizeRows p (length archive) new) ≡ 0) (block : words ≡ wordCount p) where
-  pub slots-of : n ≤ slotsIn p (length archive) → Slots p (length archive) n words
-  slots-of few = record { rows = ready p (length archive) new none .from; within = few; block = block }
+module _ (p : Params) (archive : List ℕ) (new : ℕ) {n : ℕ} (none : first (sizeRows p (length archive) new) ≡ 0) where
+  pub slots-of : n ≤ slotsIn p (length archive) → Slots p (length archive) n
+  slots-of few = record { rows = ready p (length archive) new none .from; within = few }
 
-  pub copyable : {u : ℕ} → n ≡ slotsIn p (length archive) → u ≡ firstUnreadable p archive 0 n → n ≤ u → Copyable p archive new n words
+  pub copyable : {u : ℕ} → n ≡ slotsIn p (length archive) → u ≡ firstUnreadable p archive 0 n → n ≤ u → Copyable p archive new n
   copyable {u} all is h =
       let r = ready p (length archive) new none in
       record {
         mode = r .mode;
         from = slots-of (omega (arith, all));
-        to = record { rows = r .to; within = omega (arith, all, r .enough); block = block };
+        to = record { rows = r .to; within = omega (arith, all, r .enough) };
         readable = omega (arith, is, unreadable-most p archive 0 n);
       }

@@ -1,99 +1,158 @@
--- Slots of an archive gone through: a read of one, and a store into a full one. Assumes nothing.
+-- Slots of an archive gone through: where each lies, what a reader tells of it, and its bits in a full slot. Assumes nothing.
 use mathlib.Core.Path.{_≡_, refl, sym, ap, _∙_}
-use mathlib.Core.Bool.{Bool, true, false, _&&_}
-use mathlib.Core.List.{List, [], _∷_}
-use Prim.Native.Nat.{ℕ, suc, _+_, _<_}
+use mathlib.Core.Bool.{Bool, true, false, not, _&&_, false≢true}
+use mathlib.Core.List.{List, [], _∷_, _++_, append-assoc}
+use Prim.Native.Nat.{ℕ, zero, suc, _+_, _-_, _*_, _^_, _≤_, _<_, min}
 use native.Mathlib.Nat.{le-trans}
 use native.Mathlib.Omega.{arith}
-use borrow.Author.Tests.{le-ltb}
-use lib.Dec.{ltb}
-use lib.ListN.{length}
-use Rattle.bits.specs.Stream.{bitsOf}
+use lib.Ieee.{binary32}
+use lib.ListN.{length, take, drop, replicate, length-append, length-replicate, replicate-append-replicate}
+use lib.Seq.{take-take, take-append-add, length-slice}
+use Rattle.bits.specs.Stream.{bitsOf, write}
+use Rattle.bits.proofs.SameLaws.{same-true}
+use Rattle.bits.proofs.StreamLaws.{length-bitsOf, drop-take}
+use Rattle.codec.specs.Code.{definedCode, padded}
 use Rattle.params.specs.declared.Params.{Params}
-use Rattle.params.specs.Width.{exact, widthOf}
-use Rattle.params.specs.Rows.{first, placeRows}
-use Rattle.params.proofs.RowLaws.{Good, sized}
+use Rattle.params.specs.Dimension.{Dimension}
+use Rattle.params.specs.Width.{float, exact, wordCount, widthOf}
+use Rattle.params.specs.Rows.{first}
+use Rattle.params.proofs.RowLaws.{Placed, sized, placed}
 use Rattle.params.proofs.Passed.{place-passes}
 use Rattle.slot_code.specs.Rules.{codeOf, wordsOf, row11}
-use Rattle.slot_code.proofs.Exact.{full-fits}
-use Rattle.slots.specs.Outcome.{Stored, Fetched, storeOutcome, readOutcome, slotOf, withBlock}
-use Rattle.slots.specs.declared.Reply.{Reply}
-use Rattle.slots.specs.Calls.{stored, fetched}
-use Rattle.slots.specs.Rows.{readRows}
-use Rattle.slots.proofs.RowLaws.{read-first}
-use Rattle.slots.proofs.Outcomes.{store-done}
+use Rattle.slot_code.proofs.Exact.{code-exact, full-fits}
+use Rattle.slots.specs.Outcome.{slotIn, slotOf, withBlock}
 use Rattle.copier.specs.Copy.{fullSlots, copied}
-use Rattle.copier.specs.Calls.{Slots, Copyable}
+use Rattle.copier.specs.Calls.{Slots, Movable, Copyable}
 use Rattle.copier.proofs.Unreadable.{readable-before}
 
-module _ {p : Params} {size n words : ℕ} (s : Slots p size n words) (k : ℕ) (below : k < n) where
-  good : Good p
-  good = sized p size (s .rows) .0
+-- slot k is there
+pub slot-there : {p : Params} {size n m : ℕ} → Slots p size n → (k : ℕ) → k < n → m ≡ wordCount p → Placed p size k m
+slot-there {p} {size} {n} {m} s k below e =
+    let g = sized p size (s .rows) in
+    placed p size k m (place-passes p (g .0) size k m (g .1) (le-trans below (s .within)) e)
 
-  -- every row of a place passes
-  pub placed-in : (m : ℕ) → m ≡ words → first (placeRows p size k m) ≡ 0
-  placed-in m e = place-passes p good size k m (sized p size (s .rows) .1) (le-trans below (s .within)) (e ∙ s .block)
+-- and lies within both archives
+pub rooms : {p : Params} {archive : List ℕ} {new k w full : ℕ} → Movable p archive new k → w ≡ widthOf p → full ≡ widthOf (fullSlots p)
+    → (k * w + w ≤ 8 * length archive) × (k * w + w < 2 ^ 32) × (k * full + full ≤ 8 * new) × (k * full + full < 2 ^ 32)
+rooms {p} {archive} {new} {k} m we fe =
+    let old = slot-there (m .from) k (omega arith) refl in
+    let full = slot-there (m .to) k (omega arith) refl in
+    rw (we, fe) (old .room, omega (arith, old .room, old .size-to), full .room, omega (arith, full .room, full .size-to))
 
-  -- ---- a read of slot k, by what the call promises
+-- ---- row 11, by what a reader tells
 
-  module _ (slot : List Bool) (before : List ℕ) {after : List ℕ} {r : Reply} (long : length before ≡ words)
-      (read : fetched r after ≡ readOutcome p size k slot before) where
-    rows : r .answer ≡ first (row11 p slot ∷ [])
-    unfolding readOutcome
-    rows = ap (λ (o : Fetched). o .answer) read ∙ read-first p size k (length before) slot (placed-in (length before) long)
+module _ (p : Params) (slot : List Bool) {row : ℕ} (is : row ≡ first (row11 p slot ∷ [])) where
+  pub row-refused : (row ≡ 0 → ⊥) → row11 p slot .applies ≡ true
+  row-refused h = go (row11 p slot .applies) refl
+    where
+      go : (b : Bool) → row11 p slot .applies ≡ b → b ≡ true
+      go true e = refl
+      go false e = absurd (h (is ∙ rw e))
 
-    pub read-refused : (r .answer ≡ 0 → ⊥) → row11 p slot .applies ≡ true
-    read-refused h = go (row11 p slot .applies) refl
-      where
-        go : (b : Bool) → row11 p slot .applies ≡ b → b ≡ true
-        go true e = refl
-        go false e = absurd (h (rows ∙ rw e))
+  pub row-passed : row ≡ 0 → row11 p slot .applies ≡ false
+  row-passed h = go (row11 p slot .applies) refl
+    where
+      go : (b : Bool) → row11 p slot .applies ≡ b → b ≡ false
+      go true e = let eleven : row ≡ 11 = is ∙ rw e in absurd (omega (arith, eleven, h))
+      go false e = refl
 
-    pub read-done : r .answer ≡ 0 → row11 p slot .applies ≡ false
-    read-done h = go (row11 p slot .applies) refl
-      where
-        go : (b : Bool) → row11 p slot .applies ≡ b → b ≡ false
-        go true e = let eleven : r .answer ≡ 11 = rows ∙ rw e in absurd (omega (arith, eleven, h))
-        go false e = refl
+-- ---- a slot's bits in a full slot
 
-    pub read-words : row11 p slot .applies ≡ false → after ≡ wordsOf p slot
-    unfolding readOutcome
-    read-words h =
-        let e : first (readRows p size k slot (length before)) ≡ 0 = read-first p size k (length before) slot (placed-in (length before) long) ∙ rw h in
-        let words = ap (λ (o : Fetched). o .words) read in
-        rw e at words
+-- the first bits of zeros are zeros
+take-zeros : (m n : ℕ) → m ≤ n → take m (replicate n false) ≡ replicate m false
+take-zeros zero n h = refl
+take-zeros (suc m) zero h = absurd (omega arith)
+take-zeros (suc m) (suc n) h = ap (λ (l : List Bool). false ∷ l) (take-zeros m n (omega arith))
+
+-- a code and its zeros, cut after the code or lengthened
+repadded : (code : List Bool) (w count full : ℕ) → count ≤ w → count ≤ full → length code ≤ count
+    → take count (padded w code) ++ replicate (full - count) false ≡ padded full code
+repadded code w count full h k l =
+    let n = length code in
+    let parts : count ≡ n + (count - n) = omega arith in
+    let rest : count - n + (full - count) ≡ full - n = omega arith in
+    let cut : take count (padded w code) ≡ code ++ replicate (count - n) false =
+    ap (λ (i : ℕ). take i (padded w code)) parts ∙ take-append-add code (replicate (w - n) false) (count - n)
+    ∙ ap (λ (t : List Bool). code ++ t) (take-zeros (count - n) (w - n) (omega arith)) in
+    ap (λ (t : List Bool). t ++ replicate (full - count) false) cut
+    ∙ append-assoc code (replicate (count - n) false) (replicate (full - count) false)
+    ∙ ap (λ (t : List Bool). code ++ t) (replicate-append-replicate (count - n) (full - count) false ∙ ap (λ (i : ℕ). replicate i false) rest)
+
+-- an exact code does not depend on the slots' width
+code-full : (p : Params) (ws : List ℕ) → exact p ≡ true → codeOf (fullSlots p) ws ≡ codeOf p ws
+unfolding definedCode
+code-full p ws x = code-exact (fullSlots p) x ws ∙ go (float p) ∙ sym (code-exact p x ws)
+  where
+    go : (f : Bool) → definedCode binary32 f true (p .dimension) (p .planes) (widthOf (fullSlots p)) ws
+        ≡ definedCode binary32 f true (p .dimension) (p .planes) (widthOf p) ws
+    go true = refl
+    go false = refl
+
+-- so many bits from bit `start` on, and then zeros, in w bits
+abbrev moved : List Bool → ℕ → ℕ → ℕ → List Bool
+moved bits start count w = take count (drop start bits) ++ replicate (w - count) false
+
+-- the bits of a slot that can be read, as many as both widths have, and zeros: the full slot of its block
+module _ (p : Params) (x : exact p ≡ true) (bits : List Bool) (k : ℕ) (room : k * widthOf p + widthOf p ≤ length bits) where
+  abbrev slot : List Bool
+  slot = slotIn p bits k
+
+  abbrev code : List Bool
+  code = codeOf p (wordsOf p slot)
+
+  pub moved-slot : Dimension (p .dimension) → row11 p slot .applies ≡ false
+      → moved bits (k * widthOf p) (min (widthOf p) (widthOf (fullSlots p))) (widthOf (fullSlots p))
+      ≡ padded (widthOf (fullSlots p)) (codeOf (fullSlots p) (wordsOf p slot))
+  moved-slot d readable =
+      let w = widthOf p in
+      let full = widthOf (fullSlots p) in
+      let count = min w full in
+      let same : padded w code ≡ slot = same-true (padded w code) slot (not-and _ x readable) in
+      let long : length (padded w code) ≡ w = ap length same ∙ length-slice (k * w) (k * w + w) bits room ∙ omega arith in
+      let fits : length code ≤ w = omega (arith, long, length-append code (replicate (w - length code) false), length-replicate (w - length code) false) in
+      let fits-full : length code ≤ full =
+      rw (code-full p (wordsOf p slot) x) at (full-fits (fullSlots p) d (wordsOf p slot) x refl) in
+      let cut : take count (drop (k * w) bits) ≡ take count (padded w code) =
+      sym (take-take count w (drop (k * w) bits) (omega arith)) ∙ ap (take count) (sym (drop-take (k * w) w bits) ∙ sym same) in
+      ap (λ (t : List Bool). t ++ replicate (full - count) false) cut
+      ∙ repadded code w count full (omega arith) (omega arith) (omega (arith, fits, fits-full))
+      ∙ ap (padded full) (sym (code-full p (wordsOf p slot) x))
+    where
+      not-and : {y : Bool} (t : Bool) → y ≡ true → (y && not t) ≡ false → t ≡ true
+      not-and true e h = refl
+      not-and false e h = absurd (false≢true (sym (rw e at h)))
+
+-- as the code makes it: the bits, and zeros from where they end
+pub slot-moved : {p : Params} {archive : List ℕ} {new k w full count at : ℕ} {after : List Bool} (before : List Bool) → Movable p archive new k
+    → w ≡ widthOf p → full ≡ widthOf (fullSlots p) → count ≡ min w full → at ≡ k * full + count
+    → after ≡ write before (k * full) (k * full + full) (take count (drop (k * w) (bitsOf archive)) ++ replicate (k * full + full - at) false)
+    → after ≡ withBlock (fullSlots p) before k (wordsOf p (slotOf p archive k))
+unfolding slotOf
+slot-moved {p} {archive} {new} {k} {w} {full} {count} {at} before m we fe ce e put =
+    let place = slot-there (m .from) k (omega arith) refl in
+    let left : k * full + full - at ≡ full - count = omega arith in
+    let put′ = rw (left, ce, we, fe) at put in
+    put′
+    ∙ ap (write before (k * widthOf (fullSlots p)) (k * widthOf (fullSlots p) + widthOf (fullSlots p)))
+    (moved-slot p (m .mode) (bitsOf archive) k (omega (arith, place .room, length-bitsOf archive)) (place .good .dimension) (m .readable))
 
 -- ---- the slots before k are copied
 
-module _ (p : Params) (archive : List ℕ) (new₀ : List Bool) where
-  pub copied-none : new₀ ≡ copied p archive new₀ 0
+module _ (p : Params) (archive : List ℕ) (new : List Bool) where
+  pub copied-none : new ≡ copied p archive new 0
   unfolding copied
   copied-none = refl
 
--- a store into full slots is done
-module _ {p : Params} {n words : ℕ} (x : exact p ≡ true) (full : p .width ≡ 0) (archive : List ℕ) (s : Slots p (length archive) n words) (k : ℕ) (below : k < n)
-    (ws : List ℕ) (long : length ws ≡ words) where
-  full-stored : storeOutcome p archive k ws .bits ≡ withBlock p (bitsOf archive) k ws
-  full-stored =
-      let fits = full-fits p (good s k below .dimension) ws x full in
-      let short : (exact p && ltb (widthOf p) (length (codeOf p ws))) ≡ false = rw (x, le-ltb (widthOf p) (length (codeOf p ws)) fits) in
-      sym (ap (λ (o : Stored). o .bits)
-      (store-done p archive k ws (placed-in s k below (length ws) long) refl refl (rw x) short refl))
-
--- one more: the read of slot k gives its words, and the store puts them into slot k of the new archive
-module _ {p : Params} {archive : List ℕ} {size n words : ℕ} (c : Copyable p archive size n words) (k : ℕ) (below : k < n) where
-  readable-at : row11 p (slotOf p archive k) .applies ≡ false
-  readable-at = readable-before p archive 0 n k (omega arith) (omega (arith, c .readable))
-
-  pub copied-more : {f : Params} {r r′ : Reply} {ws : List ℕ} (before new new′ : List ℕ) (new₀ : List Bool)
-      → length before ≡ words → length ws ≡ words → length new ≡ size → f ≡ fullSlots p
-      → fetched r ws ≡ readOutcome p (length archive) k (slotOf p archive k) before → stored r′ new′ ≡ storeOutcome f new k ws
-      → bitsOf new ≡ copied p archive new₀ k → bitsOf new′ ≡ copied p archive new₀ (k + 1)
+  pub copied-more : (k : ℕ) {before after : List Bool} → before ≡ copied p archive new k
+      → after ≡ withBlock (fullSlots p) before k (wordsOf p (slotOf p archive k)) → after ≡ copied p archive new (k + 1)
   unfolding copied
-  copied-more {f} {r} {r′} {ws} before new new′ new₀ long block same full read store so-far =
-      let words-are : ws ≡ wordsOf p (slotOf p archive k) = read-words (c .from) k below (slotOf p archive k) before long read readable-at in
-      let to : Slots (fullSlots p) (length new) n words = rw same (c .to) in
-      let put : bitsOf new′ ≡ storeOutcome (fullSlots p) new k ws .bits = rw full at (ap (λ (o : Stored). o .bits) store) in
-      let next : k + 1 ≡ suc k = omega arith in
-      rw next
-      (put ∙ full-stored (c .mode) refl new to k below ws block ∙ rw (so-far, words-are) refl)
+  copied-more k e put = let next : k + 1 ≡ suc k = omega arith in rw next (put ∙ rw e refl)
+
+pub movable : {p : Params} {archive : List ℕ} {new n k : ℕ} → Copyable p archive new n → k < n → Movable p archive new k
+movable {p} {archive} {new} {n} {k} c below =
+    record {
+      mode = c .mode;
+      from = record { rows = c .from .rows; within = le-trans below (c .from .within) };
+      to = record { rows = c .to .rows; within = le-trans below (c .to .within) };
+      readable = readable-before p archive 0 n k (omega arith) (omega (arith, c .readable));
+    }

@@ -1,21 +1,22 @@
 -- The invariant: the i first bits were written. Assumes nothing.
-use Rattle.bits.specs.Stream.{bitsOf}
+use Rattle.bits.specs.Stream.{bitsOf, numberOf}
+use Rattle.bit_ranges.proofs.Ranges.{slice-from}
 use Rattle.bits.proofs.PieceLaws.{Partly, partly-none, partly-more, partly-all}
 use Rattle.bits.proofs.StreamLaws.{length-bitsOf}
-use lib.ListN.{length}
+use lib.ListN.{length, drop, length-drop}
 use native.Mathlib.Omega.{arith}
 use Prim.Native.Nat.{_-_}
-use mathlib.Core.Path.{_≡_, refl, _∙_}
+use mathlib.Core.Path.{_≡_, refl, ap, _∙_}
 use borrow.Author.Needs.{needs}
 use Rattle.bit_ranges.proofs.copy_bits.Statement.{statement}
 use Rattle.bit_ranges.proofs.copy_bits.Tie as tie
 
 abbrev Inv-loop : tie.InvT-loop
-Inv-loop from count buf₀ next₀ i₀ buf next i =
-    (length buf ≡ length buf₀) × Partly buf₀ buf next₀ (bitsOf from) count i next
+Inv-loop from start count buf₀ next₀ i₀ buf next i =
+    (length buf ≡ length buf₀) × Partly buf₀ buf next₀ (drop start (bitsOf from)) count i next
 
 abbrev μ-loop : tie.MeasureT-loop
-μ-loop from count buf₀ next₀ i₀ buf next i = count - i
+μ-loop from start count buf₀ next₀ i₀ buf next i = count - i
 
 loop-holds : tie.Need-loop-holds Inv-loop μ-loop
 loop-holds c = (refl, partly-none _ _ _ _)
@@ -25,6 +26,9 @@ sub-piece c = search needs
 
 piece-requires : tie.Need-piece-requires Inv-loop μ-loop
 piece-requires c κs = search needs
+
+add-get-bits : tie.Need-add-get-bits Inv-loop μ-loop
+add-get-bits c = search needs
 
 get-bits-requires : tie.Need-get-bits-requires Inv-loop μ-loop
 get-bits-requires c κs = search needs
@@ -49,10 +53,12 @@ loop-again c =
     let m = put .before .before .before .piece in
     let turn = put .before .before .before .before in
     let l = turn .before .loop in
-    let a = turn .before .before .before .before .args in (
+    let a = turn .before .before .before .before .args in
+    let bits = bitsOf (a .from .now) in (
       put .put-part .kept .0 ∙ l .inv .0,
-      partly-more (bitsOf (a .from .now)) (l .inv .1) (turn .loop-test .taken) (omega (arith, length-bitsOf (a .from .now))) (m .ensures)
-          (put .before .before .get-bits .ensures) (put .put-part .ensures),
+      partly-more (drop (a .start) bits) (l .inv .1) (turn .loop-test .taken)
+          (omega (arith, length-bitsOf (a .from .now), length-drop (a .start) bits)) (m .ensures)
+          (put .before .before .get-bits .ensures ∙ ap numberOf (slice-from bits (a .start) (l .i) (m .result))) (put .put-part .ensures),
     )
 
 same-length : tie.Need-same-length Inv-loop μ-loop
@@ -70,6 +76,7 @@ copy-bits-spec =
     loop-holds
     sub-piece
     piece-requires
+    add-get-bits
     get-bits-requires
     put-part-requires
     add-i
