@@ -11,8 +11,7 @@
  *
  * Stack
  *   No call takes more than WINDLASSOW_STACK_BYTES of stack. The most is taken by a store of 256
- *   words, and by a copy of such blocks: the library goes through a plane from one place to the next
- *   by calls within calls.
+ *   words: the library goes through a plane from one place to the next by calls within calls.
  *
  * Answers
  *   If several refusals apply, the one of the lowest number is given, except that 13 comes between 5

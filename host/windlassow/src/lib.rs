@@ -74,8 +74,8 @@ pub const MAX_RUN_LEN: usize = 4_096;
 /// more than 34,816 bytes.
 pub const MAX_STREAM_LEN: usize = 65_536;
 
-/// The bytes of stack that no call takes more of. The most is taken by a store of 256 words, and by a copy of such blocks: the
-/// library goes through a plane from one place to the next by calls within calls.
+/// The bytes of stack that no call takes more of. The most is taken by a store of 256 words: the library goes through a
+/// plane from one place to the next by calls within calls.
 pub const STACK_BYTES: usize = 80 * 1024;
 
 /// The README's example is compiled and run.
