@@ -1,6 +1,6 @@
 -- M-105 holds.
 use mathlib.Core.Path.{_≡_, refl, sym, ap, _∙_}
-use mathlib.Core.Bool.{Bool, true, false, not, _&&_, cond, false≢true}
+use mathlib.Core.Bool.{Bool, true, false, not, _&&_, cond}
 use mathlib.Core.List.{List, [], _∷_, _++_}
 use Prim.Native.Nat.{ℕ, _*_, _≤_, _<_}
 use native.Mathlib.Nat.{le-trans, mul-le-mul-right, div-mul-le-self}
@@ -10,7 +10,7 @@ use lib.Dec.{eqb}
 use lib.Ieee.{binary32}
 use lib.ListN.{length, getD}
 use Rattle.bits.specs.Stream.{bitsOf, sameBits}
-use Rattle.bits.proofs.SameLaws.{same-true, same-refl}
+use Rattle.bits.proofs.SameLaws.{same-refl}
 use Rattle.bits.proofs.StreamLaws.{length-bitsOf}
 use Rattle.codec.specs.Code.{padded}
 use Rattle.codec.specs.Depth.{wholeWritten}
@@ -23,7 +23,7 @@ use Rattle.params.proofs.RowLists.{none, first-both, first-zero, first-some, fi
 use Rattle.params.proofs.RowLaws.{placed, zero-full}
 use Rattle.slot_code.specs.Rules.{codeOf, wordsOf, depthOf, depthIn, codedPlanes, row11}
 use Rattle.slot_code.proofs.Exact.{full-fits}
-use Rattle.slot_code.proofs.Garbage.{words-block, padded-returns}
+use Rattle.slot_code.proofs.Garbage.{words-block, padded-returns, row11-passed}
 use Rattle.slot_code.proofs.Depth.{depth-back}
 use Rattle.slots.specs.Rows.{storeRows, readRows}
 use Rattle.slots.specs.Outcome.{storeOutcome, readOutcome, ifDone, slotIn, slotOf}
@@ -92,10 +92,6 @@ and-not : {t : Bool} (x : Bool) → t ≡ true → (x && not t) ≡ false
 and-not true e = rw e
 and-not false e = refl
 
-not-and : {x : Bool} (t : Bool) → x ≡ true → (x && not t) ≡ false → t ≡ true
-not-and true e h = refl
-not-and false e h = absurd (false≢true (sym (rw e at h)))
-
 -- an exact block has all its planes, whatever the slots' width
 depth-full : (p : Params) (ws : List ℕ) → exact p ≡ true → depthOf (fullSlots p) ws ≡ depthOf p ws
 unfolding depthOf wholeWritten
@@ -161,16 +157,12 @@ module _ (p : Params) (archive new : List ℕ) (done : copyOutcome p archive new
         ap (λ (v : List ℕ). sameBits (padded (widthOf (fullSlots p)) (codeOf (fullSlots p) v)) full) new-words ∙ same-refl full in
         and-not (exact (fullSlots p)) same
 
-    -- the old slot is the block's code and zeros too
-    old-slot : padded (widthOf p) (codeOf p block) ≡ slot
-    old-slot = same-true (padded (widthOf p) (codeOf p block)) slot (not-and _ (sizes .mode) old-read)
-
     same-depth : depthIn (fullSlots p) full ≡ depthIn p slot
     same-depth =
         depth-back (fullSlots p) (sizes .good .dimension) block (rw (sizes .mode))
         ∙ depth-full p block (sizes .mode)
         ∙ sym (depth-back p (sizes .good .dimension) block (rw (sizes .mode)))
-        ∙ ap (depthIn p) old-slot
+        ∙ ap (depthIn p) (row11-passed p slot (sizes .mode) old-read)
 
     equal : (before : List ℕ)
         → readOutcome (fullSlots p) (length new) k full before ≡ readOutcome p (length archive) k slot before

@@ -1,6 +1,6 @@
 -- Slots of an archive gone through: where each lies, what a reader tells of it, and its bits in a full slot. Assumes nothing.
 use mathlib.Core.Path.{_≡_, refl, sym, ap, _∙_}
-use mathlib.Core.Bool.{Bool, true, false, not, _&&_, false≢true}
+use mathlib.Core.Bool.{Bool, true, false}
 use mathlib.Core.List.{List, [], _∷_, _++_, append-assoc}
 use Prim.Native.Nat.{ℕ, zero, suc, _+_, _-_, _*_, _^_, _≤_, _<_, min}
 use native.Mathlib.Nat.{le-trans}
@@ -9,7 +9,6 @@ use lib.Ieee.{binary32}
 use lib.ListN.{length, take, drop, replicate, length-append, length-replicate, replicate-append-replicate}
 use lib.Seq.{take-take, take-append-add, length-slice}
 use Rattle.bits.specs.Stream.{bitsOf, write}
-use Rattle.bits.proofs.SameLaws.{same-true}
 use Rattle.bits.proofs.StreamLaws.{length-bitsOf, drop-take}
 use Rattle.codec.specs.Code.{definedCode, padded}
 use Rattle.params.specs.declared.Params.{Params}
@@ -20,6 +19,7 @@ use Rattle.params.proofs.RowLaws.{Placed, sized, placed}
 use Rattle.params.proofs.Passed.{place-passes}
 use Rattle.slot_code.specs.Rules.{codeOf, wordsOf, row11}
 use Rattle.slot_code.proofs.Exact.{code-exact, full-fits}
+use Rattle.slot_code.proofs.Garbage.{row11-passed}
 use Rattle.slots.specs.Outcome.{slotIn, slotOf, withBlock}
 use Rattle.copier.specs.Copy.{fullSlots, copied}
 use Rattle.copier.specs.Calls.{Slots, Movable, Copyable}
@@ -107,7 +107,7 @@ module _ (p : Params) (x : exact p ≡ true) (bits : List Bool) (k : ℕ) (room 
       let w = widthOf p in
       let full = widthOf (fullSlots p) in
       let count = min w full in
-      let same : padded w code ≡ slot = same-true (padded w code) slot (not-and _ x readable) in
+      let same = row11-passed p slot x readable in
       let long : length (padded w code) ≡ w = ap length same ∙ length-slice (k * w) (k * w + w) bits room ∙ omega arith in
       let fits : length code ≤ w = omega (arith, long, length-append code (replicate (w - length code) false), length-replicate (w - length code) false) in
       let fits-full : length code ≤ full =
@@ -117,10 +117,6 @@ module _ (p : Params) (x : exact p ≡ true) (bits : List Bool) (k : ℕ) (room 
       ap (λ (t : List Bool). t ++ replicate (full - count) false) cut
       ∙ repadded code w count full (omega arith) (omega arith) (omega (arith, fits, fits-full))
       ∙ ap (padded full) (sym (code-full p (wordsOf p slot) x))
-    where
-      not-and : {y : Bool} (t : Bool) → y ≡ true → (y && not t) ≡ false → t ≡ true
-      not-and true e h = refl
-      not-and false e h = absurd (false≢true (sym (rw e at h)))
 
 -- as the code makes it: the bits, and zeros from where they end
 pub slot-moved : {p : Params} {archive : List ℕ} {new k w full count at : ℕ} {after : List Bool} (before : List Bool) → Movable p archive new k
