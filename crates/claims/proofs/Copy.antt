@@ -19,7 +19,7 @@ use Rattle.params.specs.declared.Params.{Params}
 use Rattle.params.specs.Dimension.{topDimension}
 use Rattle.params.specs.Width.{float, exact, wordCount, fullWidth, zeroWidth, widthOf, slotsIn}
 use Rattle.params.specs.Rows.{Row, first, parameterRowsOf, row6, row7, row8, countRows, placeRows}
-use Rattle.params.proofs.RowLists.{none, first-both, first-zero, first-some, first-other}
+use Rattle.params.proofs.RowLists.{none, one-applies, first-both, first-zero, first-some, first-other}
 use Rattle.params.proofs.RowLaws.{placed, zero-full}
 use Rattle.slot_code.specs.Rules.{codeOf, wordsOf, depthOf, depthIn, codedPlanes, row11}
 use Rattle.slot_code.proofs.Exact.{full-fits}
@@ -208,14 +208,11 @@ module _ (p : Params) (archive new : List ℕ) (h : copyOutcome p archive new .a
   unfolding copyOutcome
   eleven-parts = go (eqb (first before-11) 0) refl
     where
-      applied : (b : Bool) → _≡_ {A = ℕ} (cond b 11 0) 11 → b ≡ true
-      applied true e = refl
-      applied false e = absurd (omega arith)
-
       go : (b : Bool) → eqb (first before-11) 0 ≡ b → (first before-11 ≡ 0) × (anyUnreadable p archive .applies ≡ true)
       go true e =
           let passed = eqb-true (first before-11) 0 e in
-          (passed, applied (anyUnreadable p archive .applies) (sym (first-zero before-11 (anyUnreadable p archive ∷ []) refl passed) ∙ h))
+          let eleven = sym (first-zero before-11 (anyUnreadable p archive ∷ []) refl passed) ∙ h in
+          (passed, one-applies (anyUnreadable p archive) (λ z. omega (arith, eleven, z)))
       go false e =
           absurd
           (first-other 11 before-11 (λ z. omega arith) refl (sym (first-some before-11 (anyUnreadable p archive ∷ []) (eqb-false (first before-11) 0 e)) ∙ h))

@@ -1,6 +1,6 @@
 -- Demand 2 holds.
 use mathlib.Core.Path.{_≡_, refl, sym, ap, _∙_}
-use mathlib.Core.Bool.{Bool, true, false, cond}
+use mathlib.Core.Bool.{Bool, true}
 use mathlib.Core.List.{List}
 use Prim.Native.Nat.{ℕ, _^_}
 use native.Mathlib.Omega.{arith}
@@ -12,6 +12,7 @@ use Rattle.codec.specs.Code.{padded}
 use Rattle.params.specs.declared.Params.{Params}
 use Rattle.params.specs.Width.{exact, widthOf}
 use Rattle.params.specs.Rows.{first}
+use Rattle.params.proofs.RowLists.{one-applies}
 use Rattle.params.proofs.RowLaws.{placed}
 use Rattle.slot_code.specs.Rules.{codeOf, wordsOf, row11}
 use Rattle.slot_code.proofs.Depth.{depth-back}
@@ -52,11 +53,7 @@ unfolding readOutcome
 refused-exactly p size k slot before none e =
     let iff = row11-exactly p (placed p size k (length before) none .good) slot e in
     let is = read-first p size k (length before) slot none in
-    ((λ h. iff .0 (applied (row11 p slot .applies) (sym is ∙ h))), (λ h. is ∙ rw (iff .1 h)))
-  where
-    applied : (b : Bool) → _≡_ {A = ℕ} (cond b 11 0) 11 → b ≡ true
-    applied true h = refl
-    applied false h = absurd (omega arith)
+    ((λ h. iff .0 (one-applies (row11 p slot) (λ z. omega (arith, is, h, z)))), (λ h. is ∙ rw (iff .1 h)))
 
 read-answer : ReadAnswer
 unfolding readOutcome

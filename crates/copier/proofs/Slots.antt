@@ -1,7 +1,7 @@
--- Slots of an archive gone through: where each lies, what a reader tells of it, and its bits in a full slot. Assumes nothing.
+-- Slots of an archive gone through: where each lies, and its bits in a full slot. Assumes nothing.
 use mathlib.Core.Path.{_≡_, refl, sym, ap, _∙_}
 use mathlib.Core.Bool.{Bool, true, false}
-use mathlib.Core.List.{List, [], _∷_, _++_, append-assoc}
+use mathlib.Core.List.{List, _∷_, _++_, append-assoc}
 use Prim.Native.Nat.{ℕ, zero, suc, _+_, _-_, _*_, _^_, _≤_, _<_, min}
 use native.Mathlib.Nat.{le-trans}
 use native.Mathlib.Omega.{arith}
@@ -14,7 +14,6 @@ use Rattle.codec.specs.Code.{definedCode, padded}
 use Rattle.params.specs.declared.Params.{Params}
 use Rattle.params.specs.Dimension.{Dimension}
 use Rattle.params.specs.Width.{float, exact, wordCount, widthOf}
-use Rattle.params.specs.Rows.{first}
 use Rattle.params.proofs.RowLaws.{Placed, sized, placed}
 use Rattle.params.proofs.Passed.{place-passes}
 use Rattle.slot_code.specs.Rules.{codeOf, wordsOf, row11}
@@ -38,23 +37,6 @@ rooms {p} {archive} {new} {k} m we fe =
     let old = slot-there (m .from) k (omega arith) refl in
     let full = slot-there (m .to) k (omega arith) refl in
     rw (we, fe) (old .room, omega (arith, old .room, old .size-to), full .room, omega (arith, full .room, full .size-to))
-
--- ---- row 11, by what a reader tells
-
-module _ (p : Params) (slot : List Bool) {row : ℕ} (is : row ≡ first (row11 p slot ∷ [])) where
-  pub row-refused : (row ≡ 0 → ⊥) → row11 p slot .applies ≡ true
-  row-refused h = go (row11 p slot .applies) refl
-    where
-      go : (b : Bool) → row11 p slot .applies ≡ b → b ≡ true
-      go true e = refl
-      go false e = absurd (h (is ∙ rw e))
-
-  pub row-passed : row ≡ 0 → row11 p slot .applies ≡ false
-  row-passed h = go (row11 p slot .applies) refl
-    where
-      go : (b : Bool) → row11 p slot .applies ≡ b → b ≡ false
-      go true e = let eleven : row ≡ 11 = is ∙ rw e in absurd (omega (arith, eleven, h))
-      go false e = refl
 
 -- ---- a slot's bits in a full slot
 

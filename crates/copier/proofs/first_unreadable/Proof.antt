@@ -5,12 +5,13 @@ use Prim.Native.Nat.{_-_}
 use native.Mathlib.Omega.{arith}
 use lib.ListN.{length}
 use Rattle.params.specs.Rows.{first}
+use Rattle.params.proofs.RowLists.{none, one-applies}
 use Rattle.params.proofs.RowLaws.{Placed, sized}
 use Rattle.slot_code.specs.Rules.{row11}
 use Rattle.slots.specs.Outcome.{slotOf}
 use Rattle.slots.proofs.Shapes.{good-shape, placed-at}
 use Rattle.copier.proofs.Unreadable.{Passed, passed-none, passed-here, passed-more, passed-all}
-use Rattle.copier.proofs.Slots.{slot-there, row-refused, row-passed}
+use Rattle.copier.proofs.Slots.{slot-there}
 use borrow.Author.Needs.{needs}
 use Rattle.copier.proofs.first_unreadable.Statement.{statement}
 use Rattle.copier.proofs.first_unreadable.Tie as tie
@@ -89,7 +90,7 @@ returns c =
     let t = turn got in
     let l = t .before .loop in
     let a = entry t .args in
-    passed-here _ _ (l .inv .3) (t .loop-test .taken) (row-refused (a .p) (slotOf (a .p) (a .archive .now) (l .k)) (told got) (c .if1 .taken))
+    passed-here _ _ (l .inv .3) (t .loop-test .taken) (one-applies (row11 (a .p) (slotOf (a .p) (a .archive .now) (l .k))) (λ z. c .if1 .taken (told got ∙ z)))
 
 add-k : tie.Need-add-k Inv-loop μ-loop
 add-k c = search needs
@@ -102,11 +103,12 @@ loop-again c =
     let got = c .before .before .before .before .before .before .before .before in
     let t = turn got in
     let l = t .before .loop in
-    let a = entry t .args in (
+    let a = entry t .args in
+    let row = row11 (a .p) (slotOf (a .p) (a .archive .now) (l .k)) in (
       got .fetch-by .kept .1 .1 .1 .1 .0 ∙ l .inv .0,
       got .fetch-by .kept .1 .1 .1 .1 .1 .0 ∙ l .inv .1,
       got .fetch-by .kept .1 .1 .1 .1 .1 .1 .0 ∙ l .inv .2,
-      passed-more _ _ (l .inv .3) (t .loop-test .taken) (row-passed (a .p) (slotOf (a .p) (a .archive .now) (l .k)) (told got) (c .if1 .left)),
+      passed-more _ _ (l .inv .3) (t .loop-test .taken) (none (row ∷ []) refl (sym (told got) ∙ c .if1 .left) .0),
     )
 
 same-length-4 : tie.Need-same-length-4 Inv-loop μ-loop
