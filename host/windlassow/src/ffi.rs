@@ -4,7 +4,7 @@
 //! and keeps none of them, so passing the parts of a Rust slice is all that is needed for safety.
 #![allow(unsafe_code)]
 
-use crate::Params;
+use crate::{Params, TransferRecord};
 
 /// What every call on slots returns: an answer number, a count and the planes.
 #[repr(C)]
@@ -108,6 +108,28 @@ unsafe extern "C" {
         doubles: *mut u64,
         doubles_len: usize,
     ) -> FpcReply;
+
+    fn windlassow_transfer_open(
+        transfer: *mut TransferRecord,
+        f: *mut u64,
+        f_len: usize,
+        d: *mut u64,
+        d_len: usize,
+    ) -> FpcReply;
+
+    fn windlassow_transfer_piece(
+        transfer: *mut TransferRecord,
+        f: *mut u64,
+        f_len: usize,
+        d: *mut u64,
+        d_len: usize,
+        piece: *const u8,
+        piece_len: usize,
+        doubles: *mut u64,
+        doubles_len: usize,
+    ) -> FpcReply;
+
+    fn windlassow_transfer_close(transfer: *mut TransferRecord) -> FpcReply;
 }
 
 pub fn store(p: Params, archive: &mut [u8], slot: usize, words: &[u32]) -> Reply {
@@ -228,4 +250,37 @@ pub fn fpc_read(f: &mut [u64], d: &mut [u64], stream: &[u8], doubles: &mut [u64]
             doubles.len(),
         )
     }
+}
+
+pub fn transfer_open(transfer: &mut TransferRecord, f: &mut [u64], d: &mut [u64]) -> FpcReply {
+    // SAFETY: as above, and the record is borrowed for the call.
+    unsafe { windlassow_transfer_open(transfer, f.as_mut_ptr(), f.len(), d.as_mut_ptr(), d.len()) }
+}
+
+pub fn transfer_piece(
+    transfer: &mut TransferRecord,
+    f: &mut [u64],
+    d: &mut [u64],
+    piece: &[u8],
+    doubles: &mut [u64],
+) -> FpcReply {
+    // SAFETY: as above.
+    unsafe {
+        windlassow_transfer_piece(
+            transfer,
+            f.as_mut_ptr(),
+            f.len(),
+            d.as_mut_ptr(),
+            d.len(),
+            piece.as_ptr(),
+            piece.len(),
+            doubles.as_mut_ptr(),
+            doubles.len(),
+        )
+    }
+}
+
+pub fn transfer_close(transfer: &mut TransferRecord) -> FpcReply {
+    // SAFETY: the record is borrowed for the call.
+    unsafe { windlassow_transfer_close(transfer) }
 }

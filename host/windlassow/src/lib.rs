@@ -29,8 +29,11 @@
 //! A done call on a slot gives [`Done`]: a count, and how many bit planes are whole. Of a lossy record that says how much
 //! of it survived. [`Params::lossy_floats_within`] takes a tolerance in degrees in place of planes.
 //!
-//! A refused call changes no buffer, with one exception: [`fpc_write`] and [`fpc_read`] leave both tables zero
-//! with [`Refusal::OutputTooLong`] and [`Refusal::NotAStream`].
+//! An FPC stream is read as a whole by [`fpc_read`], or in pieces as it comes by [`Transfer`].
+//!
+//! A refused call changes no buffer, with two exceptions: [`fpc_write`] and [`fpc_read`] leave both tables zero
+//! with [`Refusal::OutputTooLong`] and [`Refusal::NotAStream`], and a damaged piece of a [`Transfer`] gives the doubles before
+//! the damage.
 //!
 //! A call needs [`STACK_BYTES`] of stack; that is to be seen to in threads with small ones.
 //!
@@ -43,12 +46,14 @@ mod done;
 mod ffi;
 mod params;
 mod refusal;
+mod transfer;
 
 pub use blocks::{Block, Slots, Value, read_block, slots, store_block};
 pub use done::Done;
 pub use params::{Dimension, Kind, Mode, Params};
 pub use refusal::Refusal;
 use refusal::{copy_outcome, fpc_outcome, outcome};
+pub use transfer::{Transfer, TransferRecord};
 
 /// The least bits of a slot; fewer are refused with [`Refusal::InvalidWidth`], but 0 stands for
 /// 33N + 14 in exact mode and for 8N in lossy mode.
@@ -70,8 +75,8 @@ pub const MAX_ARCHIVE_LEN: usize = 65_536;
 /// The most doubles of a run; more are refused with [`Refusal::InputTooLong`].
 pub const MAX_RUN_LEN: usize = 4_096;
 
-/// The most bytes that [`fpc_read`] looks at; more are refused with [`Refusal::InputTooLong`]. No run has a stream of
-/// more than 34,816 bytes.
+/// The most bytes that [`fpc_read`] looks at, and the most of a piece of a [`Transfer`]; more are refused with
+/// [`Refusal::InputTooLong`]. No run has a stream of more than 34,816 bytes.
 pub const MAX_STREAM_LEN: usize = 65_536;
 
 /// The bytes of stack that no call takes more of. The most is taken by a store of 256 words: the library goes through a

@@ -6,10 +6,11 @@ use std::error::Error;
 use std::fmt::{self, Display, Formatter};
 
 /// Why a call was refused. It changed no buffer, but that [`Refusal::OutputTooLong`] and [`Refusal::NotAStream`] leave
-/// both FPC tables zero.
+/// both FPC tables zero, and that [`Refusal::Damaged`] comes with the doubles before the damage.
 ///
 /// Each has the answer number of the project's rules, which [`Refusal::number`] gives. If several apply, the
-/// one of the lowest number is given, except that 13 comes between 5 and 6, 14 before 11 and 23 before 22.
+/// one of the lowest number is given, except that 13 comes between 5 and 6, 14 before 11 and 23 before 22; of a piece 25
+/// comes before 20, and 23 before 22 only if an earlier piece was damaged.
 #[derive(Clone, Copy, Debug, PartialEq, Eq, Hash)]
 #[non_exhaustive]
 pub enum Refusal {
@@ -59,6 +60,20 @@ pub enum Refusal {
     /// 23: the bytes are not the stream, for tables of this size, of any run of at most 4,096 doubles. Both tables
     /// are zero.
     NotAStream,
+    /// 22 of a piece: there is room for fewer doubles than twice its bytes. Nothing has changed.
+    PieceRoom {
+        /// The doubles that there must be room for.
+        needed: usize,
+    },
+    /// 23 of a piece: what came is not how a stream of at most 4,096 doubles begins. The doubles before the damage were given.
+    Damaged {
+        /// How many of them this piece gave; 0 if an earlier piece was damaged, and then nothing has changed.
+        doubles: usize,
+    },
+    /// 23 of a close: what came is not a whole stream. The transfer is closed.
+    NotWhole,
+    /// 25: the transfer is not open.
+    TransferClosed,
 }
 
 impl Refusal {
@@ -84,17 +99,18 @@ impl Refusal {
             Refusal::NotACode | Refusal::UnreadableSlot { .. } => 11,
             Refusal::InvalidTables => 20,
             Refusal::InputTooLong => 21,
-            Refusal::OutputTooLong { .. } => 22,
-            Refusal::NotAStream => 23,
+            Refusal::OutputTooLong { .. } | Refusal::PieceRoom { .. } => 22,
+            Refusal::NotAStream | Refusal::Damaged { .. } | Refusal::NotWhole => 23,
+            Refusal::TransferClosed => 25,
         }
     }
 
-    /// What would have been needed, for the two refusals that say so: the bits of the code, the bytes of the
-    /// stream or the doubles of the run.
+    /// What would have been needed, for the three refusals that say so: the bits of the code, the bytes of the
+    /// stream, the doubles of the run or those that a piece may give.
     pub const fn needed(self) -> Option<usize> {
         match self {
             Refusal::CodeTooLong { bits } => Some(bits),
-            Refusal::OutputTooLong { needed } => Some(needed),
+            Refusal::OutputTooLong { needed } | Refusal::PieceRoom { needed } => Some(needed),
             _ => None,
         }
     }
@@ -125,6 +141,7 @@ impl Refusal {
             21 => Refusal::InputTooLong,
             22 => Refusal::OutputTooLong { needed: count },
             23 => Refusal::NotAStream,
+            25 => Refusal::TransferClosed,
             other => panic!("the static library gave the answer {other}, which this version does not know"),
         }
     }
@@ -156,6 +173,14 @@ impl Refusal {
                 "the bytes are not the FPC stream, for tables of this length, of any run of at most 4,096 doubles, and \
                  both tables are now zero"
             }
+            Refusal::PieceRoom { .. } => "the room is for fewer doubles than twice the piece's bytes",
+            Refusal::Damaged { .. } => {
+                "what came is not how an FPC stream, for tables of this length, of at most 4,096 doubles begins"
+            }
+            Refusal::NotWhole => {
+                "what came is not the whole FPC stream, for tables of this length, of any run of at most 4,096 doubles"
+            }
+            Refusal::TransferClosed => "the transfer is not open",
         }
     }
 }
@@ -187,6 +212,30 @@ pub(crate) fn fpc_outcome(reply: FpcReply) -> Result<usize, Refusal> {
     if answer == 0 { Ok(count as usize) } else { Err(Refusal::from_numbers(answer, count)) }
 }
 
+/// The doubles that a piece gave, or the refusal: 22 and 23 are other ones than those of a whole stream.
+pub(crate) fn piece_outcome(reply: FpcReply) -> Result<usize, Refusal> {
+    let FpcReply { answer, count } = reply;
+    match answer {
+        0 => Ok(count as usize),
+        22 => Err(Refusal::PieceRoom { needed: count as usize }),
+        23 => Err(Refusal::Damaged { doubles: count as usize }),
+        _ => Err(Refusal::from_numbers(answer, count)),
+    }
+}
+
+/// The doubles of a whole transfer, or the refusal.
+pub(crate) fn close_outcome(reply: FpcReply) -> Result<usize, Refusal> {
+    let FpcReply { answer, count } = reply;
+    match answer {
+        0 => Ok(count as usize),
+        23 => {
+            debug_assert!(count == 0, "{count} doubles with answer 23 of a close");
+            Err(Refusal::NotWhole)
+        }
+        _ => Err(Refusal::from_numbers(answer, count)),
+    }
+}
+
 impl Display for Refusal {
     fn fmt(&self, out: &mut Formatter<'_>) -> fmt::Result {
         out.write_str(self.text())?;
@@ -195,6 +244,10 @@ impl Display for Refusal {
             Refusal::UnreadableSlot { slot } => write!(out, ": slot {slot}"),
             Refusal::OutputTooLong { needed } => {
                 write!(out, ": it needs {needed} bytes to write, or doubles to read")
+            }
+            Refusal::PieceRoom { needed } => write!(out, ": it needs {needed} doubles"),
+            Refusal::Damaged { doubles } => {
+                write!(out, ": {doubles} doubles of this piece came before the damage")
             }
             _ => Ok(()),
         }
