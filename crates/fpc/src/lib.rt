@@ -15,7 +15,7 @@ ghost use Rattle.fpc_stream.specs.Outcome.{goodSize, delivered, fpcWriteOutcome
 ghost use Rattle.fpc.specs.Calls.{Refused, outcome};
 
 // Whether n is a power of two from 16 to 1,024.
-fn good_size(n: usize) -> bool
+pub fn good_size(n: usize) -> bool
     ensures { λ r. ⌜ r ≡ goodSize n ⌝ }
 {
     match n {
@@ -34,7 +34,7 @@ fn refused(f: &mut [u64], d: &mut [u64], answer: u32, count: u32) -> Reply
 }
 
 // Whether two tables of these lengths may be lent: equal, and a power of two from 16 to 1,024.
-fn good_lengths(m: usize, n: usize) -> bool
+pub fn good_lengths(m: usize, n: usize) -> bool
     ensures { λ r. ⌜ r ≡ (eqb m n && goodSize m) ⌝ }
 {
     if m == n { good_size(m) } else { false }

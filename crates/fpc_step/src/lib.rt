@@ -32,7 +32,7 @@ pub struct CodedDouble {
 }
 
 // Both predictions.
-fn predict(f: &[u64], d: &[u64], p: Place) -> Predicted
+pub fn predict(f: &[u64], d: &[u64], p: Place) -> Predicted
     requires { ⌜ Within (now f) (now d) p ⌝ }
     ensures { λ r. ⌜ r ≡ predicted (predictors (now (f .entry)) (now (d .entry)) p) ⌝ }
 {

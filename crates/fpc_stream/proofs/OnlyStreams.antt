@@ -131,7 +131,7 @@ pairs-back size (suc k) s (b ∷ bytes) vs sound h e =
     vs _ refl (t .then)
 
 -- what was read is a run whose defined stream the bytes are
-read-is-stream : (size : ℕ) (bytes vs : List ℕ) → AllBelow 256 bytes → read size bytes ≡ some vs → IsStream size bytes vs
+pub read-is-stream : (size : ℕ) (bytes vs : List ℕ) → AllBelow 256 bytes → read size bytes ≡ some vs → IsStream size bytes vs
 unfolding read stream
 read-is-stream size bytes vs h e =
     let r = pairs-back size (mostDoubles / 2) (startPredictors size) bytes vs (sound-start size) h e in

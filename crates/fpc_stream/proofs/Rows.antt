@@ -13,7 +13,7 @@ use Rattle.fpc_stream.specs.Outcome.{goodSize, goodTables, mostBytes, un
 use Rattle.fpc_stream.specs.Calls.{Tables}
 
 -- a good size is from 1 to 1,024
-good-bounds : (n : ℕ) → goodSize n ≡ true → (0 < n) × (n ≤ 1024)
+pub good-bounds : (n : ℕ) → goodSize n ≡ true → (0 < n) × (n ≤ 1024)
 unfolding goodSize
 good-bounds n e =
     last (eqb n 16 || eqb n 32 || eqb n 64 || eqb n 128 || eqb n 256 || eqb n 512)

@@ -1,0 +1,55 @@
+-- What the functions of the crate compute, in terms of the machine.
+use mathlib.Core.Path.{_≡_}
+use mathlib.Core.Bool.{true, cond}
+use mathlib.Core.List.{List}
+use Prim.Native.Nat.{ℕ, _+_, _^_, _≤_}
+use lib.Dec.{eqb}
+use lib.ListN.{length}
+use lib.Seq.{sets}
+use Rattle.fpc_step.specs.declared.Place.{Place}
+use Rattle.fpc_step.specs.Calls.{Within}
+use Rattle.fpc_stream.specs.Stream.{halfAfter, halfByte}
+use Rattle.transfer.specs.declared.Transfer.{Transfer}
+use Rattle.fpc_run.specs.declared.Reply.{Reply}
+use Rattle.transfer.specs.declared.Taken.{Taken}
+use Rattle.transfer.specs.declared.Judged.{Judged}
+use Rattle.transfer.specs.declared.Judged.the-variants.{Double, Other}
+use Rattle.transfer.specs.Machine.{Machine, Fed, inHand}
+use Rattle.transfer.specs.Calls.{machine, fit, Outcome, Closing}
+
+abbrev pub placeOf : Transfer → Place
+placeOf t = record { h = t .h; g = t .g; last = t .last }
+
+-- the record after a double, with the predictors at p
+abbrev pub moved : Transfer → ℕ → Place → Transfer
+moved t state p = record { state = state; given = t .given + 1; pair = t .pair; held = 0; value = 0; last = p .last; size = t .size; h = p .h; g = p .g }
+
+unfoldable pub judgement : Machine → ℕ → Judged
+unfolding halfByte
+judgement m hb = cond (eqb (halfAfter (m .at) (inHand m hb)) hb) (Double (inHand m hb)) Other
+
+-- the tables are lent in the size of the record, and k more doubles can be counted
+pub record Ready (k : ℕ) (t : Transfer) (f d : List ℕ) (at : ℕ) : Type 0 where
+  pub within : Within f d (placeOf t)
+  pub sized : t .size ≡ length f
+  pub few : t .given + k ≤ 2 ^ 20
+  pub early : at + k ≤ 2 ^ 20
+
+-- a record that counts as open or damaged, and tables of its size
+pub record Standing (t : Transfer) (f d : List ℕ) : Type 0 where
+  pub fits : fit t ≡ true
+  pub f-sized : length f ≡ t .size
+  pub d-sized : length d ≡ t .size
+
+-- the machine and the doubles of `r`: the record and the tables are that machine's, and the doubles stand in the output from place `at` on
+pub record Gave (r : Fed) (out : List ℕ) (at : ℕ) (k : Taken) (out′ f′ d′ : List ℕ) : Type 0 where
+  pub to-is : machine (k .transfer) f′ d′ ≡ r .to
+  pub next-is : k .next ≡ at + length (r .doubles)
+  pub put : out′ ≡ sets out at (r .doubles)
+
+-- what a call answers and leaves
+abbrev pub called : Reply → Transfer → List ℕ → List ℕ → List ℕ → Outcome
+called r t out f d = record { answer = r .answer; count = r .count; transfer = t; out = out; f = f; d = d }
+
+abbrev pub calledOff : Reply → Transfer → Closing
+calledOff r t = record { answer = r .answer; count = r .count; transfer = t }

@@ -1,0 +1,51 @@
+-- A transfer from its opening to its close.
+use mathlib.Core.Bool.{_||_, cond}
+use mathlib.Core.List.{List, [], _∷_, _++_}
+use mathlib.Core.Option.{Option, none, some}
+use Prim.Native.Nat.{ℕ, _*_}
+use lib.Dec.{ltb, eqb}
+use lib.ListN.{length, take}
+use Rattle.transfer.specs.declared.Transfer.{Transfer}
+use Rattle.fpc_stream.specs.Outcome.{mostBytes}
+use Rattle.transfer.specs.Calls.{Outcome, Closing, shut, openOutcome, pieceOutcome}
+
+-- a piece and the room that is lent with it
+pub record Part : Type 0 where
+  pub piece : List ℕ
+  pub room : List ℕ
+
+-- "a piece refused with 20, 21 or 22 isn't part of the stream"
+abbrev pub counted : Part → List ℕ
+counted p = cond (ltb mostBytes (length (p .piece)) || ltb (length (p .room)) (2 * length (p .piece))) [] (p .piece)
+
+abbrev pub streamOf : List Part → List ℕ
+streamOf [] = []
+streamOf (p ∷ ps) = counted p ++ streamOf ps
+
+-- the doubles that a piece handed out: "0 and 23 return how many this piece gave"
+abbrev pub handed : Outcome → List ℕ
+handed o = cond (eqb (o .answer) 0 || eqb (o .answer) 23) (take (o .count) (o .out)) []
+
+-- where pieces leave the record and the tables, and the doubles that they handed out
+pub record Sent : Type 0 where
+  pub transfer : Transfer
+  pub f : List ℕ
+  pub d : List ℕ
+  pub doubles : List ℕ
+
+abbrev pub sent : Transfer → List ℕ → List ℕ → List Part → Sent
+sent t f d [] = record { transfer = t; f = f; d = d; doubles = [] }
+sent t f d (p ∷ ps) =
+    let o = pieceOutcome t f d (p .piece) (p .room) in
+    let r = sent (o .transfer) (o .f) (o .d) ps in
+    record { transfer = r .transfer; f = r .f; d = r .d; doubles = handed o ++ r .doubles }
+
+-- an opening, and then pieces
+unfoldable pub session : List ℕ → List ℕ → List Part → Sent
+unfolding openOutcome pieceOutcome
+session f d ps = let o = openOutcome f d in sent (o .transfer) (o .f) (o .d) ps
+
+-- what the close is to answer, from what the whole-stream reader makes of the bytes
+abbrev pub closing : Option (List ℕ) → Closing
+closing none = record { answer = 23; count = 0; transfer = shut }
+closing (some vs) = record { answer = 0; count = length vs; transfer = shut }

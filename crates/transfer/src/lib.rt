@@ -1,0 +1,149 @@
+// An FPC stream read as it comes, in pieces: document 02's "Modem pieces". A record of the transfer goes in by value and comes back; the exported
+// calls update it in place.
+mod fit;
+mod machine;
+
+use fit::fits;
+use fpc::good_lengths;
+use fpc_run::Reply;
+use fpc_step::slices::clear;
+use machine::fed;
+ghost use mathlib.Core.Path.{_≡_};
+ghost use mathlib.Core.Bool.{cond};
+ghost use mathlib.Core.List.{[]};
+ghost use lib.Dec.{eqb};
+ghost use Rattle.transfer.specs.Calls.{openOutcome, pieceOutcome, closeOutcome};
+ghost use Rattle.transfer.specs.Code.{called, calledOff};
+
+// Where a transfer stands. `state`: closed 0, at a pair's byte 1, in its first double 2, in its second 3, after the odd end 4, damaged 5.
+// `pair` is the pair's byte; `held` bytes of the double in hand came, and `value` is their number.
+#[repr(C)]
+pub struct Transfer {
+    pub state: u32,
+    pub given: u32,
+    pub pair: u32,
+    pub held: u32,
+    pub value: u64,
+    pub last: u64,
+    pub size: usize,
+    pub h: usize,
+    pub g: usize,
+}
+
+// What bytes leave: the transfer, and the place of the next double in the output.
+pub struct Taken {
+    pub transfer: Transfer,
+    pub next: usize,
+}
+
+// What a call answers, and the record after it.
+pub struct Answered {
+    pub reply: Reply,
+    pub transfer: Transfer,
+}
+
+// A record that is closed.
+const SHUT: Transfer = Transfer {
+    state: 0,
+    given: 0,
+    pair: 0,
+    held: 0,
+    value: 0,
+    last: 0,
+    size: 0,
+    h: 0,
+    g: 0,
+};
+
+// What the rules say of a complete double.
+pub enum Judged {
+    Double(u64),
+    Other,
+}
+
+// 23 after damage, else 0.
+fn verdict(t: Transfer) -> u32
+    ensures { λ r. ⌜ r ≡ cond (eqb (t .state) 5) 23 0 ⌝ }
+{
+    if t.state == 5 { 23 } else { 0 }
+}
+
+fn reply_with(t: Transfer, answer: u32, count: u32) -> Answered
+    ensures { λ r. ⌜ calledOff (r .reply) (r .transfer) ≡ record { answer = answer; count = count; transfer = t } ⌝ }
+{
+    Answered {
+        reply: Reply { answer, count },
+        transfer: t,
+    }
+}
+
+// An opening.
+pub fn open(f: &mut [u64], d: &mut [u64]) -> Answered
+    ensures { λ r. ⌜ called (r .reply) (r .transfer) [] (now (f .exit)) (now (d .exit)) ≡ openOutcome (now (f .entry)) (now (d .entry)) ⌝ }
+{
+    if !good_lengths(f.len(), d.len()) {
+        return reply_with(SHUT, 20, 0);
+    }
+    clear(f);
+    clear(d);
+    let n = f.len();
+    reply_with(
+        Transfer {
+            state: 1,
+            given: 0,
+            pair: 0,
+            held: 0,
+            value: 0,
+            last: 0,
+            size: n,
+            h: 0,
+            g: 0,
+        },
+        0,
+        0,
+    )
+}
+
+// A close.
+pub fn close(t: Transfer) -> Answered
+    ensures { λ r. ⌜ calledOff (r .reply) (r .transfer) ≡ closeOutcome t ⌝ }
+{
+    if !fits(t) {
+        return reply_with(t, 25, 0);
+    }
+    if t.state == 1 {
+        return reply_with(SHUT, 0, t.given);
+    }
+    if t.state == 4 {
+        return reply_with(SHUT, 0, t.given);
+    }
+    reply_with(SHUT, 23, 0)
+}
+
+// A piece.
+pub fn piece(t: Transfer, f: &mut [u64], d: &mut [u64], piece: &[u8], out: &mut [u64]) -> Answered
+    ensures { λ r. ⌜ called (r .reply) (r .transfer) (now (out .exit)) (now (f .exit)) (now (d .exit)) ≡ pieceOutcome t (now (f .entry)) (now (d .entry)) (now (piece .entry)) (now (out .entry)) ⌝ }
+{
+    if !fits(t) {
+        return reply_with(t, 25, 0);
+    }
+    if !good_lengths(f.len(), d.len()) {
+        return reply_with(t, 20, 0);
+    }
+    if f.len() != t.size {
+        return reply_with(t, 20, 0);
+    }
+    if 65536 < piece.len() {
+        return reply_with(t, 21, 0);
+    }
+    if t.state == 5 {
+        return reply_with(t, 23, 0);
+    }
+    let n = 2 * piece.len();
+    if out.len() < n {
+        return reply_with(t, 22, n as u32);
+    }
+    let r = fed(t, f, d, piece, out);
+    let s = r.transfer;
+    reply_with(s, verdict(s), r.next as u32)
+}
