@@ -1,11 +1,14 @@
 // The calls that the static library exports: plain numbers in place of a record, a slice as pointer and length.
 ghost use mathlib.Core.Path.{_≡_};
+ghost use mathlib.Core.List.{[]};
 ghost use lib.ListN.{length};
 ghost use Rattle.slots.specs.Outcome.{countOutcome, bitOutcome, storeOutcome, readOutcome, slotOf};
 ghost use Rattle.slots.specs.Calls.{replied, stored, fetched};
 ghost use Rattle.copier.specs.Copy.{copyOutcome};
 ghost use Rattle.fpc_stream.specs.Outcome.{fpcWriteOutcome, fpcReadOutcome};
 ghost use Rattle.fpc.specs.Calls.{outcome};
+ghost use Rattle.transfer.specs.Calls.{openOutcome, pieceOutcome, closeOutcome};
+ghost use Rattle.transfer.specs.Code.{called, calledOff};
 ghost use Rattle.windlassow.specs.Calls.{params};
 
 // The record of the parameters. The host's lowest exponent is an i32, which arrives as the u32 of the same bits.
@@ -155,4 +158,48 @@ pub extern "C" fn windlassow_fpc_read(
         ≡ fpcReadOutcome (now (f .entry)) (now (d .entry)) (now (stream .entry)) (now (doubles .entry)) ⌝ }
 {
     fpc::fpc_read(f, d, stream, doubles)
+}
+
+// A transfer is opened.
+#[no_mangle]
+pub extern "C" fn windlassow_transfer_open(
+    transfer: &mut transfer::Transfer,
+    f: &mut [u64],
+    d: &mut [u64],
+) -> fpc_run::Reply
+    ensures { λ r. ⌜
+        called r (now (transfer .exit)) [] (now (f .exit)) (now (d .exit))
+        ≡ openOutcome (now (f .entry)) (now (d .entry)) ⌝ }
+{
+    let r = transfer::open(f, d);
+    *transfer = r.transfer;
+    r.reply
+}
+
+// The next piece of the stream.
+#[no_mangle]
+pub extern "C" fn windlassow_transfer_piece(
+    transfer: &mut transfer::Transfer,
+    f: &mut [u64],
+    d: &mut [u64],
+    piece: &[u8],
+    doubles: &mut [u64],
+) -> fpc_run::Reply
+    ensures { λ r. ⌜
+        called r (now (transfer .exit)) (now (doubles .exit)) (now (f .exit)) (now (d .exit))
+        ≡ pieceOutcome (now (transfer .entry)) (now (f .entry)) (now (d .entry)) (now (piece .entry)) (now (doubles .entry)) ⌝ }
+{
+    let r = transfer::piece(*transfer, f, d, piece, doubles);
+    *transfer = r.transfer;
+    r.reply
+}
+
+// A transfer is closed.
+#[no_mangle]
+pub extern "C" fn windlassow_transfer_close(transfer: &mut transfer::Transfer) -> fpc_run::Reply
+    ensures { λ r. ⌜ calledOff r (now (transfer .exit)) ≡ closeOutcome (now (transfer .entry)) ⌝ }
+{
+    let r = transfer::close(*transfer);
+    *transfer = r.transfer;
+    r.reply
 }

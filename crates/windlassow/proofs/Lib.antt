@@ -1,0 +1,2 @@
+-- What the walks of `windlassow` share.
+pub mod Thin
