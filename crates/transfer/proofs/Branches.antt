@@ -1,29 +1,30 @@
 -- What each way through the code of a byte leaves is what the machine does there. Assumes nothing.
 use mathlib.Core.Path.{_≡_, refl, sym, ap, _∙_, subst}
-use mathlib.Core.Bool.{Bool, true, false, cond}
+use mathlib.Core.Bool.{true, false}
 use mathlib.Core.List.{List, [], _∷_}
+use mathlib.Core.Option.{Option, none, some, Option·some-injective}
 use Prim.Native.Nat.{ℕ, suc, _+_, _/_, _%_, _^_, _≤_, _<_}
 use native.Mathlib.Nat.{add-zero}
 use native.Mathlib.Numerals.{add-one}
 use native.Mathlib.Omega.{arith}
-use lib.Dec.{eqb}
 use lib.ListN.{length, set}
 use borrow.Author.Tests.{eq-eqb, ne-eqb}
 use Rattle.fpc_step.specs.declared.Place.{Place}
 use Rattle.fpc_step.specs.Calls.{predictors}
 use Rattle.fpc_stream.specs.Predictors.{Predictors, update}
-use Rattle.fpc_stream.specs.Stream.{remainingCount, halfAfter}
-use Rattle.fpc_stream.specs.Reading.{mostDoubles}
+use Rattle.fpc_stream.specs.declared.Step.{Step}
+use Rattle.fpc_stream.specs.declared.Step.the-variants.{Double, Bad}
+use Rattle.fpc_stream.specs.Stream.{remainingCount}
+use Rattle.fpc_stream.specs.Reading.{Found, Answer, answered, answerOf, mostDoubles}
 use Rattle.fpc_stream.proofs.CodeLaws.{bytes-le}
 use Rattle.fpc_stream.proofs.Rows.{good-bounds}
 use Rattle.fpc_step.proofs.WriteLaws.{same-size, within-next}
 use Rattle.transfer.proofs.FitLaws.{Fit, Counted, at-pair, in-first, in-second, after-end, after-damage, fit-of}
 use Rattle.transfer.specs.declared.Transfer.{Transfer}
 use Rattle.transfer.specs.declared.Taken.{Taken}
-use Rattle.transfer.specs.declared.Judged.the-variants.{Double, Other}
-use Rattle.transfer.specs.Machine.{Machine, Fed, atPair, inSecond, inFirst, ended, turned, begun, holding, past, silent, gives, damage, complete, inHand, judged, odd, second, first}
+use Rattle.transfer.specs.Machine.{Machine, Fed, atPair, inSecond, inFirst, ended, turned, begun, holding, past, silent, gives, damage, complete, judgement, goesOut, judged, odd, second, first}
 use Rattle.transfer.specs.Calls.{machine, transfer, heldBelow}
-use Rattle.transfer.specs.Code.{placeOf, moved, judgement, Ready, Standing, Gave}
+use Rattle.transfer.specs.Code.{placeOf, moved, Ready, Standing, Gave}
 
 -- nothing goes out
 pub gave-silent : (r : Fed) (out : List ℕ) (at : ℕ) (t : Transfer) (f d : List ℕ) → r ≡ silent (machine t f d) → Gave r out at (record { transfer = t; next = at }) out f d
@@ -38,22 +39,24 @@ gave-one r q v out at k out₁ out′ f′ d′ e eo g =
     (record { to-is = g .to-is; next-is = g .next-is ∙ omega arith; put = g .put ∙ rw (eo, n) })
 
 -- a complete double
-module _ (m : Machine) (hb next : ℕ) (on : Machine → Fed) where
-  pub judged-other : judgement m hb ≡ Other → judged m hb next on ≡ damage m
-  unfolding judged judgement
-  judged-other e = go (inHand m hb) (eqb (halfAfter (m .at) (inHand m hb)) hb) e
+module _ (m : Machine) (hb next : ℕ) (on : Machine → Fed) (r : Step) (e : answerOf r ≡ answered (judgement m hb)) where
+  pub judged-other : r ≡ Bad → judged m hb next on ≡ damage m
+  unfolding judged
+  judged-other q = go (judgement m hb) (rw q at e)
     where
-      go : (v : ℕ) (b : Bool) → cond b (Double v) Other ≡ Other → cond b (gives (v ∷ []) (on (past m next v))) (damage m) ≡ damage m
-      go v true q = absurd (let z : _≡_ {A = ℕ} 0 1 = cc in omega arith)
-      go v false q = refl
+      go : (o : Option Found) → answerOf Bad ≡ answered o → goesOut m next on o ≡ damage m
+      go none p = refl
+      go (some x) p = absurd (let z : 23 ≡ 0 = ap (λ (a : Answer Found). a .number) p in omega arith)
 
-  pub judged-double : (v : ℕ) → judgement m hb ≡ Double v → judged m hb next on ≡ gives (v ∷ []) (on (past m next v))
-  unfolding judged judgement
-  judged-double v e = go (inHand m hb) (eqb (halfAfter (m .at) (inHand m hb)) hb) e
+  pub judged-double : (v n : ℕ) → r ≡ Double v n → judged m hb next on ≡ gives (v ∷ []) (on (past m next v))
+  unfolding judged
+  judged-double v n q = go (judgement m hb) (rw q at e)
     where
-      go : (w : ℕ) (b : Bool) → cond b (Double w) Other ≡ Double v → cond b (gives (w ∷ []) (on (past m next w))) (damage m) ≡ gives (v ∷ []) (on (past m next v))
-      go w true q = let z : w ≡ v = cc in ap (λ (x : ℕ). gives (x ∷ []) (on (past m next x))) z
-      go w false q = absurd (let z : _≡_ {A = ℕ} 0 1 = cc in omega arith)
+      go : (o : Option Found) → answerOf (Double v n) ≡ answered o → goesOut m next on o ≡ gives (v ∷ []) (on (past m next v))
+      go none p = absurd (let z : 0 ≡ 23 = ap (λ (a : Answer Found). a .number) p in omega arith)
+      go (some x) p =
+          let z : _≡_ {A = Found} (record { double = v; next = n }) x = Option·some-injective _ _ (ap (λ (a : Answer Found). a .values) p) in
+          ap (λ (y : Found). gives (y .double ∷ []) (on (past m next (y .double)))) (sym z)
 
 module _ (m : Machine) where
   pub second-waits : (m .held ≡ remainingCount (m .pair % 16 % 8) → ⊥) → second m ≡ silent m

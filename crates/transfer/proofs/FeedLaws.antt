@@ -2,15 +2,15 @@
 use mathlib.Core.Path.{_≡_, refl, sym, ap, _∙_}
 use mathlib.Core.Bool.{Bool, true, false, cond}
 use mathlib.Core.List.{List, [], _∷_, _++_, append-assoc, append-nil}
+use mathlib.Core.Option.{Option, none, some}
 use Prim.Native.Nat.{ℕ, _+_, _*_, _/_, _%_, _≤_}
 use native.Mathlib.Omega.{arith}
 use lib.Dec.{eqb}
 use lib.ListN.{length, length-append}
 use borrow.Author.Tests.{eq-eqb, ne-eqb}
 use Rattle.fpc_stream.specs.Predictors.{Predictors, update, after}
-use Rattle.fpc_stream.specs.Stream.{halfAfter}
-use Rattle.fpc_stream.specs.Reading.{mostDoubles}
-use Rattle.transfer.specs.Machine.{Machine, Fed, atPair, inFirst, inSecond, ended, damaged, turned, begun, holding, past, silent, gives, damage, complete, inHand, judged, odd, second, first, feedByte, feed}
+use Rattle.fpc_stream.specs.Reading.{Found, mostDoubles}
+use Rattle.transfer.specs.Machine.{Machine, Fed, atPair, inFirst, inSecond, ended, damaged, turned, begun, holding, past, silent, gives, damage, complete, judgement, goesOut, judged, odd, second, first, feedByte, feed}
 
 -- two pieces, one after the other, are one piece
 pub feed-append : (m : Machine) (xs ys : List ℕ) → feed m (xs ++ ys) ≡ gives (feed m xs .doubles) (feed (feed m xs .to) ys)
@@ -50,13 +50,13 @@ turns k m state = record { size-is = refl; at-is = refl; given-is = omega arith;
 module _ (m : Machine) where
   judged-went : (k hb next : ℕ) (on : Machine → Fed) → ((n : Machine) → Went k n (on n)) → Went (1 + k) m (judged m hb next on)
   unfolding judged
-  judged-went k hb next on h = go (eqb (halfAfter (m .at) (inHand m hb)) hb)
+  judged-went k hb next on h = go (judgement m hb)
     where
-      go : (b : Bool) → Went (1 + k) m (cond b (gives (inHand m hb ∷ []) (on (past m next (inHand m hb)))) (damage m))
-      go true = went-on 1 k m (record { to = past m next (inHand m hb); doubles = inHand m hb ∷ [] }) (on (past m next (inHand m hb)))
-          (record { size-is = refl; at-is = refl; given-is = refl; most = omega arith })
-          (h (past m next (inHand m hb)))
-      go false = turns (1 + k) m damaged
+      go : (o : Option Found) → Went (1 + k) m (goesOut m next on o)
+      go none = turns (1 + k) m damaged
+      go (some x) =
+          let m′ = past m next (x .double) in
+          went-on 1 k m (record { to = m′; doubles = x .double ∷ [] }) (on m′) (record { size-is = refl; at-is = refl; given-is = refl; most = omega arith }) (h m′)
 
   second-went : Went 1 m (second m)
   unfolding second

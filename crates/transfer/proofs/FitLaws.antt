@@ -2,6 +2,7 @@
 use mathlib.Core.Path.{_≡_, refl, sym, ap, subst}
 use mathlib.Core.Bool.{Bool, true, false, cond, not, _&&_, _||_, and-eq-true-iff}
 use mathlib.Core.List.{List, [], _∷_}
+use mathlib.Core.Option.{Option, none, some}
 use Prim.Native.Nat.{ℕ, suc, _+_, _*_, _/_, _%_, _^_, _≤_, _<_}
 use native.Mathlib.Nat.{mod-lt, pow-suc, mul-le-mul-right}
 use native.Mathlib.Numerals.{add-one}
@@ -12,10 +13,10 @@ use Rattle.words.specs.Word.{AllBelow}
 use Rattle.transfer.specs.declared.Transfer.{Transfer}
 use Rattle.fpc_stream.specs.Predictors.{fcmHash, dfcmHash}
 use Rattle.fpc_stream.specs.Stream.{remainingCount}
-use Rattle.fpc_stream.specs.Reading.{mostDoubles}
+use Rattle.fpc_stream.specs.Reading.{Found, mostDoubles}
 use Rattle.fpc_stream.specs.Outcome.{goodSize}
 use Rattle.fpc_stream.proofs.Rows.{good-bounds}
-use Rattle.transfer.specs.Machine.{Machine, Fed, atPair, inFirst, inSecond, ended, damaged, opened, turned, begun, holding, past, silent, gives, damage, complete, inHand, judged, odd, second, first, feedByte, feed}
+use Rattle.transfer.specs.Machine.{Machine, Fed, atPair, inFirst, inSecond, ended, damaged, opened, turned, begun, holding, past, silent, gives, damage, complete, judgement, goesOut, judged, odd, second, first, feedByte, feed}
 use Rattle.transfer.proofs.FeedLaws.{byte-full, byte-pair, byte-first, byte-second, byte-ended, byte-damaged}
 use Rattle.transfer.specs.Calls.{machine, transfer, heldBelow, givenFits, fit}
 
@@ -45,11 +46,11 @@ module _ (m : Machine) (z : Sized m) (byte : m .pair < 256) where
 
   fit-judged : (hb next : ℕ) (on : Machine → Fed) → m .given ≤ mostDoubles → ((v : ℕ) → Fit (on (past m next v) .to)) → Fit (judged m hb next on .to)
   unfolding judged
-  fit-judged hb next on l h = go (inHand m hb) (eqb _ hb)
+  fit-judged hb next on l h = go (judgement m hb)
     where
-      go : (v : ℕ) (b : Bool) → Fit (cond b (gives (v ∷ []) (on (past m next v))) (damage m) .to)
-      go v true = h v
-      go v false = fit-damage l
+      go : (o : Option Found) → Fit (goesOut m next on o .to)
+      go none = fit-damage l
+      go (some x) = h (x .double)
 
   fit-second : m .state ≡ inSecond → m .given % 2 ≡ 1 → m .given ≤ mostDoubles → m .held ≤ remainingCount (m .pair % 16 % 8) → m .value < 256 ^ m .held → Fit (second m .to)
   unfolding second

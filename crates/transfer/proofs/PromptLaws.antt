@@ -1,25 +1,19 @@
 -- "Each double goes out as soon as it can be known": with its last byte, and not before. Assumes nothing.
 use mathlib.Core.Path.{_≡_, refl, sym, ap, _∙_}
-use mathlib.Core.Bool.{Bool, true, false, cond}
 use mathlib.Core.List.{List, [], _∷_, _++_, append-nil}
-use mathlib.Core.Option.{Option, none, some}
 use Prim.Native.Nat.{ℕ, _+_, _/_, _%_, _^_, _≤_, _<_}
 use native.Mathlib.Omega.{arith}
-use lib.Bits.{bitXor}
-use lib.Dec.{eqb}
 use lib.ListN.{length, length-append}
 use lib.Seq.{append-snoc}
-use Rattle.fpc_stream.specs.Bytes.{fromBytes}
-use Rattle.fpc_stream.specs.Predictors.{Predictors, fcm, dfcm, prediction, update}
+use Rattle.fpc_stream.specs.Predictors.{Predictors, fcm, dfcm, update}
 use Rattle.fpc_stream.specs.Stream.{remainingCount, halfAfter, remainingAfter}
-use Rattle.fpc_stream.specs.Reading.{Found, mostDoubles}
+use Rattle.fpc_stream.specs.Reading.{mostDoubles}
 use Rattle.fpc_stream.proofs.CodeLaws.{half-code}
 use Rattle.fpc_stream.proofs.StepLaws.{length-remaining, step-right}
 use Rattle.fpc_stream.proofs.Sound.{Sound, fcm-lt, dfcm-lt}
-use Rattle.transfer.specs.Machine.{Machine, Fed, atPair, inFirst, inSecond, past, silent, gives, damage, judged, second, first, feedByte, feed}
-use Rattle.transfer.proofs.StepLaws.{step-complete}
+use Rattle.transfer.specs.Machine.{Machine, Fed, atPair, inFirst, inSecond, past, silent, gives, goesOut, judged, second, first, feedByte, feed}
 use Rattle.transfer.proofs.FeedLaws.{byte-pair, byte-first, byte-second, feed-snoc}
-use Rattle.transfer.proofs.WholeLaws.{machine, held-more}
+use Rattle.transfer.proofs.WholeLaws.{machine, judges-as-step, held-more}
 use Rattle.transfer.proofs.Branches.{first-waits, first-judged, second-waits}
 
 -- the double v with all its bytes goes out
@@ -27,18 +21,12 @@ module _ (size : ℕ) (s : Predictors) (sound : Sound s) (v : ℕ) (hv : v < 2 ^
   all-held : length (remainingAfter s v) ≡ remainingCount (halfAfter s v % 8)
   all-held = length-remaining (fcm s) (dfcm s) v ∙ ap remainingCount (sym (half-code (fcm s) (dfcm s) v))
 
-  judged-right : (state n p next : ℕ) (on : Machine → Fed) → judged (machine size s state n p (remainingAfter s v)) (halfAfter s v) next on ≡ gives (v ∷ []) (on (past (machine size s state n p (remainingAfter s v)) next v))
+  judged-right : (state n p next : ℕ) (on : Machine → Fed)
+      → judged (machine size s state n p (remainingAfter s v)) (halfAfter s v) next on ≡ gives (v ∷ []) (on (past (machine size s state n p (remainingAfter s v)) next v))
   unfolding judged
   judged-right state n p next on =
-      go (bitXor (fromBytes (remainingAfter s v)) (prediction (fcm s) (dfcm s) (halfAfter s v / 8))) (eqb _ (halfAfter s v))
-      (sym (step-complete (fcm s) (dfcm s) (halfAfter s v) (remainingAfter s v) [] all-held) ∙ step-right (fcm s) (dfcm s) v [] (fcm-lt s sound) (dfcm-lt s) hv)
-    where
-      go : (w : ℕ) (b : Bool) → cond {A = Option Found} b (some (record { double = w; next = length (remainingAfter s v) })) none ≡ some (record { double = v; next = length (remainingAfter s v) })
-          → cond b (gives (w ∷ []) (on (past (machine size s state n p (remainingAfter s v)) next w))) (damage (machine size s state n p (remainingAfter s v))) ≡ gives (v ∷ []) (on (past (machine size s state n p (remainingAfter s v)) next v))
-      go w true e =
-          let z : _≡_ {A = Found} (record { double = w; next = length (remainingAfter s v) }) (record { double = v; next = length (remainingAfter s v) }) = cc in
-          ap (λ (x : Found). gives (x .double ∷ []) (on (past (machine size s state n p (remainingAfter s v)) next (x .double)))) z
-      go w false e = absurd (let z : _≡_ {A = ℕ} 0 1 = cc in omega arith)
+      let step = step-right (fcm s) (dfcm s) v [] (fcm-lt s sound) (dfcm-lt s) hv in
+      ap (goesOut (machine size s state n p (remainingAfter s v)) next on) (sym (judges-as-step size s state n p (remainingAfter s v) [] (halfAfter s v) all-held) ∙ step)
 
   first-right : (n p : ℕ) → p / 16 ≡ halfAfter s v → first (machine size s inFirst n p (remainingAfter s v)) ≡ gives (v ∷ []) (second (past (machine size s inFirst n p (remainingAfter s v)) inSecond v))
   first-right n p e =

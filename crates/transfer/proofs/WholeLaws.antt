@@ -14,11 +14,17 @@ use Rattle.fpc_stream.specs.Bytes.{fromBytes}
 use Rattle.fpc_stream.specs.Predictors.{Predictors, startPredictors, fcm, dfcm, prediction, update, after}
 use Rattle.fpc_stream.specs.Stream.{remainingCount, oddHalf, oddByte}
 use Rattle.fpc_stream.specs.Reading.{Found, stepOf, oddEnd, andThen, readPairs, mostDoubles, read}
-use Rattle.transfer.specs.Machine.{Machine, Fed, atPair, inFirst, inSecond, ended, damaged, opened, turned, holding, silent, gives, damage, complete, judged, odd, second, first, feedByte, feed, whole, accepted}
+use Rattle.transfer.specs.Machine.{Machine, Fed, atPair, inFirst, inSecond, ended, damaged, opened, turned, holding, silent, gives, damage, complete, goesOut, judgement, judged, odd, second, first, feedByte, feed, whole, accepted}
 use Rattle.transfer.proofs.StepLaws.{from-snoc, step-short, step-complete, odd-none}
 
 abbrev pub machine : ℕ → Predictors → ℕ → ℕ → ℕ → List ℕ → Machine
 machine size s state n p held = record { size = size; at = s; state = state; given = n; pair = p; held = length held; value = fromBytes held }
+
+-- a complete double is judged as the reader's step judges it, whatever comes after it
+pub judges-as-step : (size : ℕ) (s : Predictors) (state n p : ℕ) (held bytes : List ℕ) (hb : ℕ) → length held ≡ remainingCount (hb % 8)
+    → stepOf (fcm s) (dfcm s) hb (held ++ bytes) ≡ judgement (machine size s state n p held) hb
+unfolding judgement
+judges-as-step size s state n p held bytes hb full = step-complete (fcm s) (dfcm s) hb held bytes full
 
 -- a double, and what `more` makes of the bytes after it
 abbrev doubleThen : ℕ → Predictors → ℕ → List ℕ → (Predictors → List ℕ → Option (List ℕ)) → Option (List ℕ)
@@ -95,11 +101,11 @@ module _ (size : ℕ) (s : Predictors) (n p : ℕ) (held : List ℕ) (hb state n
   going-judged : (on : Machine → Fed) (more : Predictors → List ℕ → Option (List ℕ))
       → ((v : ℕ) → Going size (more (update size s v)) (on (machine size (update size s v) next (n + 1) p [])))
       → Going size (λ bytes. doubleThen size s hb (held ++ bytes) more) (judged (machine size s state n p held) hb next on)
-  unfolding judged
+  unfolding judged judgement
   going-judged on more h = go (bitXor (fromBytes held) (prediction (fcm s) (dfcm s) (hb / 8))) (eqb _ hb) (λ bytes. step-complete (fcm s) (dfcm s) hb held bytes full)
     where
       go : (v : ℕ) (b : Bool) → ((bytes : List ℕ) → stepOf (fcm s) (dfcm s) hb (held ++ bytes) ≡ cond b (some (record { double = v; next = length held })) none)
-          → Going size (λ bytes. doubleThen size s hb (held ++ bytes) more) (cond b (gives (v ∷ []) (on (machine size (update size s v) next (n + 1) p []))) (damage (machine size s state n p held)))
+          → Going size (λ bytes. doubleThen size s hb (held ++ bytes) more) (goesOut (machine size s state n p held) next on (cond b (some (record { double = v; next = length held })) none))
       go v true e =
           let g = h v in
           let r = on (machine size (update size s v) next (n + 1) p []) in

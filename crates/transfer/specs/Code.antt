@@ -1,20 +1,16 @@
 -- What the functions of the crate compute, in terms of the machine.
 use mathlib.Core.Path.{_≡_}
-use mathlib.Core.Bool.{true, cond}
+use mathlib.Core.Bool.{true}
 use mathlib.Core.List.{List}
 use Prim.Native.Nat.{ℕ, _+_, _^_, _≤_}
-use lib.Dec.{eqb}
 use lib.ListN.{length}
 use lib.Seq.{sets}
 use Rattle.fpc_step.specs.declared.Place.{Place}
 use Rattle.fpc_step.specs.Calls.{Within}
-use Rattle.fpc_stream.specs.Stream.{halfAfter, halfByte}
 use Rattle.transfer.specs.declared.Transfer.{Transfer}
 use Rattle.fpc_run.specs.declared.Reply.{Reply}
 use Rattle.transfer.specs.declared.Taken.{Taken}
-use Rattle.transfer.specs.declared.Judged.{Judged}
-use Rattle.transfer.specs.declared.Judged.the-variants.{Double, Other}
-use Rattle.transfer.specs.Machine.{Machine, Fed, inHand}
+use Rattle.transfer.specs.Machine.{Fed}
 use Rattle.transfer.specs.Calls.{machine, fit, Outcome, Closing}
 
 abbrev pub placeOf : Transfer → Place
@@ -23,10 +19,6 @@ placeOf t = record { h = t .h; g = t .g; last = t .last }
 -- the record after a double, with the predictors at p
 abbrev pub moved : Transfer → ℕ → Place → Transfer
 moved t state p = record { state = state; given = t .given + 1; pair = t .pair; held = 0; value = 0; last = p .last; size = t .size; h = p .h; g = p .g }
-
-unfoldable pub judgement : Machine → ℕ → Judged
-unfolding halfByte
-judgement m hb = cond (eqb (halfAfter (m .at) (inHand m hb)) hb) (Double (inHand m hb)) Other
 
 -- the tables are lent in the size of the record, and k more doubles can be counted
 pub record Ready (k : ℕ) (t : Transfer) (f d : List ℕ) (at : ℕ) : Type 0 where

@@ -7,7 +7,7 @@ use lib.Bits.{bitXor}
 use lib.Dec.{eqb}
 use Rattle.fpc_stream.specs.Predictors.{Predictors, startPredictors, fcm, dfcm, prediction, update}
 use Rattle.fpc_stream.specs.Stream.{remainingCount, halfAfter, halfByte, oddHalf, oddByte}
-use Rattle.fpc_stream.specs.Reading.{mostDoubles}
+use Rattle.fpc_stream.specs.Reading.{Found, mostDoubles}
 
 -- where a transfer stands: closed, at a pair's byte, in its first double, in its second, after the odd end, damaged
 abbrev pub closed : ℕ
@@ -81,10 +81,19 @@ complete m hb = eqb (m .held) (remainingCount (hb % 8))
 abbrev pub inHand : Machine → ℕ → ℕ
 inHand m hb = bitXor (m .value) (prediction (fcm (m .at)) (dfcm (m .at)) (hb / 8))
 
--- "Damage is a complete double that the rules code otherwise"; else it goes out, and the machine goes on in the next state
-unfoldable pub judged : Machine → ℕ → ℕ → (Machine → Fed) → Fed
+-- what a reader's step makes of that double, if it is complete: it is found where the rules code it so
+unfoldable pub judgement : Machine → ℕ → Option Found
 unfolding halfByte
-judged m hb next on = cond (eqb (halfAfter (m .at) (inHand m hb)) hb) (gives (inHand m hb ∷ []) (on (past m next (inHand m hb)))) (damage m)
+judgement m hb = cond (eqb (halfAfter (m .at) (inHand m hb)) hb) (some (record { double = inHand m hb; next = m .held })) none
+
+-- "Damage is a complete double that the rules code otherwise"; one that is found goes out, and the machine goes on in the next state
+abbrev pub goesOut : Machine → ℕ → (Machine → Fed) → Option Found → Fed
+goesOut m next on none = damage m
+goesOut m next on (some x) = gives (x .double ∷ []) (on (past m next (x .double)))
+
+unfoldable pub judged : Machine → ℕ → ℕ → (Machine → Fed) → Fed
+unfolding judgement
+judged m hb next on = goesOut m next on (judgement m hb)
 
 -- half byte 6 and 00 in the second place
 abbrev pub odd : Machine → Bool

@@ -55,12 +55,6 @@ const SHUT: Transfer = Transfer {
     g: 0,
 };
 
-// What the rules say of a complete double.
-pub enum Judged {
-    Double(u64),
-    Other,
-}
-
 // 23 after damage, else 0.
 fn verdict(t: Transfer) -> u32
     ensures { λ r. ⌜ r ≡ cond (eqb (t .state) 5) 23 0 ⌝ }

@@ -1,5 +1,4 @@
 // The machine of single bytes: what one byte more makes of a transfer. Records go in by value and come back.
-use super::Judged;
 use super::Taken;
 use super::Transfer;
 use fpc_step::Place;
@@ -7,6 +6,7 @@ use fpc_step::advance;
 use fpc_step::predict;
 use fpc_step::slices::put_double;
 use fpc_step::slices::wide;
+use fpc_stream::Step;
 use fpc_stream::code::chosen;
 use fpc_stream::code::half_of;
 use fpc_stream::code::remaining_count;
@@ -15,10 +15,11 @@ ghost use Prim.Native.Nat.{_+_, _^_, _%_, _≤_, _<_};
 ghost use mathlib.Core.List.{[]};
 ghost use lib.ListN.{length};
 ghost use Rattle.fpc_stream.specs.Stream.{remainingCount};
+ghost use Rattle.fpc_stream.specs.Reading.{answered, answerOf};
 ghost use Rattle.fpc_step.specs.Calls.{Within};
-ghost use Rattle.transfer.specs.Machine.{odd, begun, holding, turned, second, first, feedByte, feed};
+ghost use Rattle.transfer.specs.Machine.{odd, begun, holding, turned, judgement, second, first, feedByte, feed};
 ghost use Rattle.transfer.specs.Calls.{machine, transfer};
-ghost use Rattle.transfer.specs.Code.{placeOf, judgement, moved, Ready, Standing, Gave};
+ghost use Rattle.transfer.specs.Code.{placeOf, moved, Ready, Standing, Gave};
 
 // How many bytes the double of a half byte has.
 pub fn needed(half: u32) -> u32
@@ -128,16 +129,16 @@ fn is_odd(t: Transfer) -> bool
 }
 
 // The double of a half byte and its bytes, if the rules code it so.
-fn judge(f: &[u64], d: &[u64], t: Transfer, half: u32) -> Judged
+fn judge(f: &[u64], d: &[u64], t: Transfer, half: u32) -> Step
     requires { ⌜ Within (now f) (now d) (placeOf t) ⌝ }
-    ensures { λ r. ⌜ r ≡ judgement (machine t (now (f .entry)) (now (d .entry))) half ⌝ }
+    ensures { λ r. ⌜ answerOf r ≡ answered (judgement (machine t (now (f .entry)) (now (d .entry))) half) ⌝ }
 {
     let a = predict(f, d, place_of(t));
     let v = t.value ^ chosen(a, half / 8);
     if half_of(a, v) == half {
-        Judged::Double(v)
+        Step::Double(v, t.held as usize)
     } else {
-        Judged::Other
+        Step::Bad
     }
 }
 
@@ -159,7 +160,7 @@ fn in_second(t: Transfer, f: &mut [u64], d: &mut [u64], out: &mut [u64], at: usi
             next: at,
         };
     }
-    let Judged::Double(v) = judge(f, d, t, half) else {
+    let Step::Double(v, _) = judge(f, d, t, half) else {
         return Taken {
             transfer: turn(t, 5),
             next: at,
@@ -185,7 +186,7 @@ fn in_first(t: Transfer, f: &mut [u64], d: &mut [u64], out: &mut [u64], at: usiz
             next: at,
         };
     }
-    let Judged::Double(v) = judge(f, d, t, half) else {
+    let Step::Double(v, _) = judge(f, d, t, half) else {
         return Taken {
             transfer: turn(t, 5),
             next: at,

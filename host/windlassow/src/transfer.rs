@@ -79,7 +79,7 @@ impl TransferRecord {
 ///
 /// /// The doubles of a stream, from wherever it comes.
 /// fn received(mut modem: impl Read) -> Result<Vec<f64>, Box<dyn std::error::Error>> {
-///     let mut transfer = Transfer::open([0; 64], [0; 64])?;
+///     let mut transfer = Transfer::open([0; 16], [0; 16])?;
 ///     let (mut piece, mut doubles) = ([0; 100], [0; 200]);
 ///     let mut all = Vec::new();
 ///     loop {

@@ -59,7 +59,7 @@ returns-2 c =
     let m = machine (a .t) (a .f .now) (a .d .now) in
     gave-silent (first m) (a .out .now) (a .at) (c .turn .result) (a .f .now) (a .d .now)
     (first-judged m (e .if1 .left ∙ e .before .before .needed .ensures)
-    ∙ judged-other m (a .t .pair / 16) inSecond second (sym (j .judge .ensures) ∙ c .before .enum-told .given .1)
+    ∙ judged-other m (a .t .pair / 16) inSecond second (j .judge .result) (j .judge .ensures) (c .before .enum-told .given .1)
     ∙ ap (λ (t : Transfer). silent (machine t (a .f .now) (a .d .now))) (sym (c .turn .ensures)))
 
 place-of-requires : tie.Need-place-of-requires
@@ -113,7 +113,7 @@ returns-3 c =
     let ep = w .advance .ensures ∙ ap (λ (p : Place). update (length (a .f .now)) (predictors (a .f .now) (a .d .now) p) v) (w .before .place-of .ensures) in
     let em = ap (λ (t : Transfer). machine t (w .advance .last .0) (w .advance .last .1 .0)) (x .pass .ensures) ∙ past-is (a .t) (a .f .now) (a .d .now) inSecond v (w .advance .result) (w .advance .last .0) (w .advance .last .1 .0) (s .pre .sized) ep in
     gave-one (first m) (second (past m inSecond v)) v (a .out .now) (a .at) (y .in-second .result) (u .put-double .last .0) (y .in-second .last .1 .1 .1 .0) (y .in-second .last .1 .0) (y .in-second .last .1 .1 .0)
-    (first-judged m (e .if1 .left ∙ e .before .before .needed .ensures) ∙ judged-double m (a .t .pair / 16) inSecond second v (sym (j .judge .ensures) ∙ k .v .given .1))
+    (first-judged m (e .if1 .left ∙ e .before .before .needed .ensures) ∙ judged-double m (a .t .pair / 16) inSecond second (j .judge .result) (j .judge .ensures) v (k .v .given .0 .1 .0) (k .v .given .1))
     (u .put-double .ensures)
     (gave-as (second (past m inSecond v)) _ (u .put-double .last .0) (a .at + 1) (y .in-second .result) (y .in-second .last .1 .1 .1 .0) (y .in-second .last .1 .0) (y .in-second .last .1 .1 .0) (ap second (sym em)) (y .in-second .ensures))
 

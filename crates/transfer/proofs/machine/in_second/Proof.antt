@@ -70,7 +70,7 @@ returns-3 c =
     let m = machine (a .t) (a .f .now) (a .d .now) in
     gave-silent (second m) (a .out .now) (a .at) (c .turn2 .result) (a .f .now) (a .d .now)
     (second-judged m (o .before .if1 .left ∙ n .needed .ensures) (sym (o .is-odd .ensures) ∙ e .if2 .left)
-    ∙ judged-other m (a .t .pair % 16) atPair silent (sym (j .judge .ensures) ∙ c .before .enum-told .given .1)
+    ∙ judged-other m (a .t .pair % 16) atPair silent (j .judge .result) (j .judge .ensures) (c .before .enum-told .given .1)
     ∙ ap (λ (t : Transfer). silent (machine t (a .f .now) (a .d .now))) (sym (c .turn2 .ensures)))
 
 place-of-requires : tie.Need-place-of-requires
@@ -119,7 +119,7 @@ returns-4 c =
     let em = ap (λ (t : Transfer). machine t (w .advance .last .0) (w .advance .last .1 .0)) (c .pass .ensures) ∙ past-is (a .t) (a .f .now) (a .d .now) atPair v (w .advance .result) (w .advance .last .0) (w .advance .last .1 .0) (s .pre .sized) ep in
     gave-one (second m) (silent (past m atPair v)) v (a .out .now) (a .at) _ (u .put-double .last .0) (u .put-double .last .0) (w .advance .last .0) (w .advance .last .1 .0)
     (second-judged m (o .before .if1 .left ∙ n .needed .ensures) (sym (o .is-odd .ensures) ∙ e .if2 .left)
-    ∙ judged-double m (a .t .pair % 16) atPair silent v (sym (j .judge .ensures) ∙ k .before .v .given .1))
+    ∙ judged-double m (a .t .pair % 16) atPair silent (j .judge .result) (j .judge .ensures) v (k .before .v .given .0 .1 .0) (k .before .v .given .1))
     (u .put-double .ensures)
     (gave-silent (silent (past m atPair v)) (u .put-double .last .0) (a .at + 1) (c .pass .result) (w .advance .last .0) (w .advance .last .1 .0) (ap silent (sym em)))
 

@@ -1,5 +1,6 @@
 -- `transfer::machine::judge` meets its contract: each side of the test is a case of `judgement`. Assumes nothing.
 use mathlib.Core.Path.{_≡_, sym, ap, ap₂, _∙_}
+use mathlib.Core.Option.{some}
 use Prim.Native.Nat.{ℕ, _/_}
 use lib.Bits.{bitXor}
 use borrow.Author.Tests.{eq-eqb, ne-eqb}
@@ -9,10 +10,10 @@ use Rattle.fpc_stream.specs.Stream.{halfByte}
 use Rattle.fpc_stream.specs.Predictors.{fcm, dfcm, prediction}
 use Rattle.fpc_step.specs.declared.Place.{Place}
 use Rattle.fpc_step.specs.Calls.{predictors, predicted}
-use Rattle.transfer.specs.declared.Judged.the-variants.{Double, Other}
-use Rattle.transfer.specs.Machine.{Machine, inHand}
+use Rattle.fpc_stream.specs.declared.Step.the-variants.{Double, Bad}
+use Rattle.fpc_stream.specs.Reading.{Found, answered, answerOf}
+use Rattle.transfer.specs.Machine.{Machine, inHand, judgement}
 use Rattle.transfer.specs.Calls.{machine}
-use Rattle.transfer.specs.Code.{judgement}
 use Rattle.transfer.proofs.machine.judge.Statement.{statement}
 use Rattle.transfer.proofs.machine.judge.Tie as tie
 
@@ -37,23 +38,26 @@ module _ (m : Machine) (hb : ℕ) (a : Predicted) (ea : a ≡ record { fcm = fcm
   k-is : halfByte (fcm (m .at)) (dfcm (m .at)) (inHand m hb) ≡ k
   k-is = sym (ek ∙ ap₂ (λ (p : Predicted) (v : ℕ). halfByte (p .fcm) (p .dfcm) v) ea v-is)
 
-  judged-so : k ≡ hb → Double (bitXor (m .value) x) ≡ judgement m hb
+  judged-so : k ≡ hb → answerOf (Double (bitXor (m .value) x) (m .held)) ≡ answered (judgement m hb)
   unfolding judgement
-  judged-so e = rw (eq-eqb (halfByte (fcm (m .at)) (dfcm (m .at)) (inHand m hb)) hb (k-is ∙ e)) (ap Double v-is)
+  judged-so e = rw (eq-eqb (halfByte (fcm (m .at)) (dfcm (m .at)) (inHand m hb)) hb (k-is ∙ e)) (ap (λ (v : ℕ). answered (some (record { double = v; next = m .held }))) v-is)
 
-  judged-not : (k ≡ hb → ⊥) → Other ≡ judgement m hb
+  judged-not : (k ≡ hb → ⊥) → answerOf Bad ≡ answered (judgement m hb)
   unfolding judgement
   judged-not e = rw (ne-eqb (halfByte (fcm (m .at)) (dfcm (m .at)) (inHand m hb)) hb (λ q. e (sym k-is ∙ q)))
 
+cast-t12 : tie.Need-cast-t12
+cast-t12 c = search needs
+
 returns : tie.Need-returns
 returns c =
-    let h = c .before in
+    let h = c .before .before in
     let x = h .before .before in
     let q = x .before in
     let p = q .before in
     let a = p .before .before .before .args in
     let ea = q .predict .ensures ∙ ap (λ (z : Place). predicted (predictors (a .f .now) (a .d .now) z)) (p .place-of .ensures) in
-    judged-so (machine (a .t) (a .f .now) (a .d .now)) (a .half) (q .predict .result) ea (x .chosen .result) (x .chosen .ensures) (h .half-of .result) (h .half-of .ensures) (c .if1 .taken)
+    judged-so (machine (a .t) (a .f .now) (a .d .now)) (a .half) (q .predict .result) ea (x .chosen .result) (x .chosen .ensures) (h .half-of .result) (h .half-of .ensures) (c .before .if1 .taken)
 
 returns-2 : tie.Need-returns-2
 returns-2 c =
@@ -73,5 +77,6 @@ judge-spec =
     predict-requires
     chosen-requires
     half-of-requires
+    cast-t12
     returns
     returns-2)
