@@ -11,4 +11,5 @@ pub mod Lowest
 pub mod CutScan
 pub mod Tolerance
 pub mod Copy
+pub mod Pieces
 pub mod Listing

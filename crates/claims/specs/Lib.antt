@@ -10,4 +10,5 @@ pub mod Lowest
 pub mod Tolerance
 pub mod CutScan
 pub mod Copy
+pub mod Pieces
 pub mod Listing

@@ -10,3 +10,4 @@ pub mod Branches
 pub mod Pieces
 pub mod Rows
 pub mod PromptLaws
+pub mod RunLaws

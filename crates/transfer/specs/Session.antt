@@ -1,12 +1,11 @@
 -- A transfer from its opening to its close.
-use mathlib.Core.Bool.{_||_, cond}
+use mathlib.Core.Bool.{Bool, _||_, cond}
 use mathlib.Core.List.{List, [], _∷_, _++_}
 use mathlib.Core.Option.{Option, none, some}
-use Prim.Native.Nat.{ℕ, _*_}
-use lib.Dec.{ltb, eqb}
+use Prim.Native.Nat.{ℕ}
+use lib.Dec.{eqb}
 use lib.ListN.{length, take}
 use Rattle.transfer.specs.declared.Transfer.{Transfer}
-use Rattle.fpc_stream.specs.Outcome.{mostBytes}
 use Rattle.transfer.specs.Calls.{Outcome, Closing, shut, openOutcome, pieceOutcome}
 
 -- a piece and the room that is lent with it
@@ -14,33 +13,33 @@ pub record Part : Type 0 where
   pub piece : List ℕ
   pub room : List ℕ
 
--- "a piece refused with 20, 21 or 22 isn't part of the stream"
-abbrev pub counted : Part → List ℕ
-counted p = cond (ltb mostBytes (length (p .piece)) || ltb (length (p .room)) (2 * length (p .piece))) [] (p .piece)
-
-abbrev pub streamOf : List Part → List ℕ
-streamOf [] = []
-streamOf (p ∷ ps) = counted p ++ streamOf ps
-
--- the doubles that a piece handed out: "0 and 23 return how many this piece gave"
-abbrev pub handed : Outcome → List ℕ
-handed o = cond (eqb (o .answer) 0 || eqb (o .answer) 23) (take (o .count) (o .out)) []
-
--- where pieces leave the record and the tables, and the doubles that they handed out
+-- where pieces leave the record and the tables, the stream that they are, and the doubles that they handed out
 pub record Sent : Type 0 where
   pub transfer : Transfer
   pub f : List ℕ
   pub d : List ℕ
+  pub stream : List ℕ
   pub doubles : List ℕ
 
+-- the answers of a piece that was taken
+abbrev pub taken : Outcome → Bool
+taken o = eqb (o .answer) 0 || eqb (o .answer) 23
+
+-- pieces, one after the other. "a piece refused with 20, 21 or 22 isn't part of the stream"; "0 and 23 return how many this piece gave"
 abbrev pub sent : Transfer → List ℕ → List ℕ → List Part → Sent
-sent t f d [] = record { transfer = t; f = f; d = d; doubles = [] }
+sent t f d [] = record { transfer = t; f = f; d = d; stream = []; doubles = [] }
 sent t f d (p ∷ ps) =
     let o = pieceOutcome t f d (p .piece) (p .room) in
     let r = sent (o .transfer) (o .f) (o .d) ps in
-    record { transfer = r .transfer; f = r .f; d = r .d; doubles = handed o ++ r .doubles }
+    record {
+      transfer = r .transfer;
+      f = r .f;
+      d = r .d;
+      stream = cond (taken o) (p .piece) [] ++ r .stream;
+      doubles = cond (taken o) (take (o .count) (o .out)) [] ++ r .doubles;
+    }
 
--- an opening, and then pieces
+-- an opening, and then pieces; the tables are lent to nobody else meanwhile
 unfoldable pub session : List ℕ → List ℕ → List Part → Sent
 unfolding openOutcome pieceOutcome
 session f d ps = let o = openOutcome f d in sent (o .transfer) (o .f) (o .d) ps
