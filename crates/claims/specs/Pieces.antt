@@ -85,9 +85,9 @@ BeforeDamage =
 
 -- ---- "Each double goes out as soon as it can be known"
 
--- after an even run us that is not full comes a pair's byte with the half byte of v
-abbrev pub atPair : ℕ → List ℕ → Predictors
-atPair size us = after size (startPredictors size) us
+-- the predictors after the run us, and a run after which a pair can come
+abbrev pub afterRun : ℕ → List ℕ → Predictors
+afterRun size us = after size (startPredictors size) us
 
 pub record EvenRun (us : List ℕ) : Type 0 where
   pub doubles : AllBelow (2 ^ 64) us
@@ -99,7 +99,7 @@ abbrev pub FirstPrompt : Type 0
 FirstPrompt =
     (f d : List ℕ) (pieces : List Part) → goodTables f d ≡ true → AllBelow 256 (session f d pieces .stream)
     → (us : List ℕ) → EvenRun us → (v lo : ℕ) → v < 2 ^ 64 → lo < 16
-    → let s = atPair (length f) us in
+    → let s = afterRun (length f) us in
     let begun = stream (length f) us ++ (16 * halfAfter s v + lo) ∷ [] in
     (session f d pieces .stream ≡ begun ++ remainingAfter s v → take (length us + 1) (session f d pieces .doubles) ≡ us ++ v ∷ [])
     × ((xs : List ℕ) → length xs < length (remainingAfter s v) → session f d pieces .stream ≡ begun ++ xs → session f d pieces .doubles ≡ us)
@@ -109,7 +109,7 @@ abbrev pub SecondPrompt : Type 0
 SecondPrompt =
     (f d : List ℕ) (pieces : List Part) → goodTables f d ≡ true → AllBelow 256 (session f d pieces .stream)
     → (us : List ℕ) → EvenRun us → (v w : ℕ) → v < 2 ^ 64 → w < 2 ^ 64
-    → let s = atPair (length f) us in
+    → let s = afterRun (length f) us in
     let s′ = update (length f) s v in
     let begun = stream (length f) us ++ (16 * halfAfter s v + halfAfter s′ w) ∷ remainingAfter s v in
     (session f d pieces .stream ≡ begun ++ remainingAfter s′ w → session f d pieces .doubles ≡ us ++ v ∷ w ∷ [])

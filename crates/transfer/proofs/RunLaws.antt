@@ -20,7 +20,7 @@ use Rattle.transfer.specs.Machine.{Machine, Fed, atPair, ended, opened, 
 use Rattle.transfer.specs.Calls.{heldBelow}
 use Rattle.transfer.proofs.FeedLaws.{feed-went, feed-append}
 use Rattle.transfer.proofs.FitLaws.{Fit, Counted, at-pair, in-first, in-second, after-end, after-damage, fit-feed, fit-opened}
-use Rattle.transfer.proofs.WholeLaws.{machine, feed-read}
+use Rattle.transfer.proofs.WholeLaws.{machineAt, feed-read}
 
 -- the predictors after doubles have doubles in their table
 pub sound-after : (size : ℕ) (s : Predictors) (vs : List ℕ) → Sound s → AllBelow (2 ^ 64) vs → Sound (after size s vs)
@@ -74,11 +74,11 @@ module _ (size : ℕ) (vs : List ℕ) (doubles : AllBelow (2 ^ 64) vs) (most : l
     value-is = let h = subst (λ (x : ℕ). fed .to .value < 256 ^ x) held-is (fits .4) in omega arith
 
     -- after an even run the machine stands at a pair's byte, with the predictors after the run
-    pub run-ends : fed ≡ record { to = machine size (after size (startPredictors size) vs) atPair (length vs) (fed .to .pair) []; doubles = vs }
+    pub run-ends : fed ≡ record { to = machineAt size (after size (startPredictors size) vs) atPair (length vs) (fed .to .pair) []; doubles = vs }
     run-ends =
         let w = feed-went (opened size) (stream size vs) in
         fed-same (w .size-is) (w .at-is ∙ ap (after size (startPredictors size)) (run-whole .1)) state-is given-is (fed .to .pair) held-is value-is (run-whole .1)
 
     pub run-then : (rest : List ℕ) → feed (opened size) (stream size vs ++ rest)
-        ≡ gives vs (feed (machine size (after size (startPredictors size) vs) atPair (length vs) (fed .to .pair) []) rest)
+        ≡ gives vs (feed (machineAt size (after size (startPredictors size) vs) atPair (length vs) (fed .to .pair) []) rest)
     run-then rest = feed-append (opened size) (stream size vs) rest ∙ ap (λ (r : Fed). gives (r .doubles) (feed (r .to) rest)) run-ends

@@ -43,12 +43,12 @@ lent-feed m bytes (ef, ed) =
     )
 
 -- bytes on both sides of a seam
-below-left : (n : ℕ) (xs ys : List ℕ) → AllBelow n (xs ++ ys) → 0 < n → AllBelow n xs
+pub below-left : (n : ℕ) (xs ys : List ℕ) → AllBelow n (xs ++ ys) → 0 < n → AllBelow n xs
 below-left n [] ys h z i = z
 below-left n (x ∷ xs) ys h z zero = h zero
 below-left n (x ∷ xs) ys h z (suc i) = below-left n xs ys (λ j. h (suc j)) z i
 
-below-right : (n : ℕ) (xs ys : List ℕ) → AllBelow n (xs ++ ys) → AllBelow n ys
+pub below-right : (n : ℕ) (xs ys : List ℕ) → AllBelow n (xs ++ ys) → AllBelow n ys
 below-right n [] ys h = h
 below-right n (x ∷ xs) ys h = below-right n xs ys (λ j. h (suc j))
 
@@ -101,7 +101,7 @@ givenBy b out r =
     }
 
 module _ (m : Machine) (q : Fit m) (l : Lent m) where
-  good-lent : (goodTables (m .at .f) (m .at .d) && eqb (length (m .at .f)) (m .size)) ≡ true
+  pub good-lent : (goodTables (m .at .f) (m .at .d) && eqb (length (m .at .f)) (m .size)) ≡ true
   unfolding goodTables
   good-lent = rw (l .0, l .1, eq-eqb (m .size) (m .size) refl, q .0 .0)
 

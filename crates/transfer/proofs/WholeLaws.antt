@@ -17,12 +17,12 @@ use Rattle.fpc_stream.specs.Reading.{Found, stepOf, oddEnd, andThen, readPairs,
 use Rattle.transfer.specs.Machine.{Machine, Fed, atPair, inFirst, inSecond, ended, damaged, opened, turned, holding, silent, gives, damage, complete, goesOut, judgement, judged, odd, second, first, feedByte, feed, whole, accepted}
 use Rattle.transfer.proofs.StepLaws.{from-snoc, step-short, step-complete, odd-none}
 
-abbrev pub machine : ℕ → Predictors → ℕ → ℕ → ℕ → List ℕ → Machine
-machine size s state n p held = record { size = size; at = s; state = state; given = n; pair = p; held = length held; value = fromBytes held }
+abbrev pub machineAt : ℕ → Predictors → ℕ → ℕ → ℕ → List ℕ → Machine
+machineAt size s state n p held = record { size = size; at = s; state = state; given = n; pair = p; held = length held; value = fromBytes held }
 
 -- a complete double is judged as the reader's step judges it, whatever comes after it
 pub judges-as-step : (size : ℕ) (s : Predictors) (state n p : ℕ) (held bytes : List ℕ) (hb : ℕ) → length held ≡ remainingCount (hb % 8)
-    → stepOf (fcm s) (dfcm s) hb (held ++ bytes) ≡ judgement (machine size s state n p held) hb
+    → stepOf (fcm s) (dfcm s) hb (held ++ bytes) ≡ judgement (machineAt size s state n p held) hb
 unfolding judgement
 judges-as-step size s state n p held bytes hb full = step-complete (fcm s) (dfcm s) hb held bytes full
 
@@ -74,13 +74,13 @@ nothing (b ∷ bytes) = none
 
 -- what the whole-stream reader makes of the bytes to come
 data Left (size : ℕ) : Machine → (List ℕ → Option (List ℕ)) → Type 0 where
-  at-pair : (k : ℕ) (s : Predictors) (n p : ℕ) → n + 2 * k ≡ mostDoubles → Left size (machine size s atPair n p []) (readPairs size k s)
+  at-pair : (k : ℕ) (s : Predictors) (n p : ℕ) → n + 2 * k ≡ mostDoubles → Left size (machineAt size s atPair n p []) (readPairs size k s)
   in-first : (k : ℕ) (s : Predictors) (n p : ℕ) (held : List ℕ) → n + 2 + 2 * k ≡ mostDoubles → length held < remainingCount (p / 16 % 8)
-      → Left size (machine size s inFirst n p held) (λ bytes. pairThen size k s (p / 16) (p % 16) (held ++ bytes))
+      → Left size (machineAt size s inFirst n p held) (λ bytes. pairThen size k s (p / 16) (p % 16) (held ++ bytes))
   in-second : (k : ℕ) (s : Predictors) (n p : ℕ) (held : List ℕ) → n + 1 + 2 * k ≡ mostDoubles → length held < remainingCount (p % 16 % 8)
-      → Left size (machine size s inSecond n p held) (λ bytes. secondThen size k s (p % 16) (held ++ bytes))
-  after-end : (s : Predictors) (n p : ℕ) → Left size (machine size s ended n p []) nothing
-  after-damage : (s : Predictors) (n p : ℕ) → Left size (machine size s damaged n p []) (λ bytes. none)
+      → Left size (machineAt size s inSecond n p held) (λ bytes. secondThen size k s (p % 16) (held ++ bytes))
+  after-end : (s : Predictors) (n p : ℕ) → Left size (machineAt size s ended n p []) nothing
+  after-damage : (s : Predictors) (n p : ℕ) → Left size (machineAt size s damaged n p []) (λ bytes. none)
 
 -- the doubles that went out, and what is left, are what the reader would make of the bytes
 record Going (size : ℕ) (more : List ℕ → Option (List ℕ)) (r : Fed) : Type 0 where
@@ -99,16 +99,16 @@ map-cons v ws (some vs) = refl
 -- a complete double
 module _ (size : ℕ) (s : Predictors) (n p : ℕ) (held : List ℕ) (hb state next : ℕ) (full : length held ≡ remainingCount (hb % 8)) where
   going-judged : (on : Machine → Fed) (more : Predictors → List ℕ → Option (List ℕ))
-      → ((v : ℕ) → Going size (more (update size s v)) (on (machine size (update size s v) next (n + 1) p [])))
-      → Going size (λ bytes. doubleThen size s hb (held ++ bytes) more) (judged (machine size s state n p held) hb next on)
+      → ((v : ℕ) → Going size (more (update size s v)) (on (machineAt size (update size s v) next (n + 1) p [])))
+      → Going size (λ bytes. doubleThen size s hb (held ++ bytes) more) (judged (machineAt size s state n p held) hb next on)
   unfolding judged judgement
   going-judged on more h = go (bitXor (fromBytes held) (prediction (fcm s) (dfcm s) (hb / 8))) (eqb _ hb) (λ bytes. step-complete (fcm s) (dfcm s) hb held bytes full)
     where
       go : (v : ℕ) (b : Bool) → ((bytes : List ℕ) → stepOf (fcm s) (dfcm s) hb (held ++ bytes) ≡ cond b (some (record { double = v; next = length held })) none)
-          → Going size (λ bytes. doubleThen size s hb (held ++ bytes) more) (goesOut (machine size s state n p held) next on (cond b (some (record { double = v; next = length held })) none))
+          → Going size (λ bytes. doubleThen size s hb (held ++ bytes) more) (goesOut (machineAt size s state n p held) next on (cond b (some (record { double = v; next = length held })) none))
       go v true e =
           let g = h v in
-          let r = on (machine size (update size s v) next (n + 1) p []) in
+          let r = on (machineAt size (update size s v) next (n + 1) p []) in
           record {
             then = g .then;
             left = g .left;
@@ -160,13 +160,13 @@ is-odd size k s lo held full e bytes =
 
 module _ (size k : ℕ) (s : Predictors) (n p : ℕ) (held : List ℕ) where
   going-second : n + 1 + 2 * k ≡ mostDoubles → length held ≤ remainingCount (p % 16 % 8)
-      → Going size (λ bytes. secondThen size k s (p % 16) (held ++ bytes)) (second (machine size s inSecond n p held))
+      → Going size (λ bytes. secondThen size k s (p % 16) (held ++ bytes)) (second (machineAt size s inSecond n p held))
   unfolding second
   going-second e l = go (eqb (length held) (remainingCount (p % 16 % 8))) (eqb (p % 16) oddHalf && eqb (fromBytes held) oddByte) refl refl
     where
       go : (b c : Bool) → eqb (length held) (remainingCount (p % 16 % 8)) ≡ b → (eqb (p % 16) oddHalf && eqb (fromBytes held) oddByte) ≡ c
           → Going size (λ bytes. secondThen size k s (p % 16) (held ++ bytes))
-          (cond b (cond c (silent (turned (machine size s inSecond n p held) ended)) (judged (machine size s inSecond n p held) (p % 16) atPair silent)) (silent (machine size s inSecond n p held)))
+          (cond b (cond c (silent (turned (machineAt size s inSecond n p held) ended)) (judged (machineAt size s inSecond n p held) (p % 16) atPair silent)) (silent (machineAt size s inSecond n p held)))
       go true true eb ec =
           let full = eqb-true _ _ eb in
           record { then = nothing; left = after-end s n p; same = λ bytes. map-nil (nothing bytes) ∙ is-odd size k s (p % 16) held full ec bytes }
@@ -178,20 +178,20 @@ module _ (size k : ℕ) (s : Predictors) (n p : ℕ) (held : List ℕ) where
 
 module _ (size k : ℕ) (s : Predictors) (n p : ℕ) (held : List ℕ) where
   going-first : n + 2 + 2 * k ≡ mostDoubles → length held ≤ remainingCount (p / 16 % 8)
-      → Going size (λ bytes. pairThen size k s (p / 16) (p % 16) (held ++ bytes)) (first (machine size s inFirst n p held))
+      → Going size (λ bytes. pairThen size k s (p / 16) (p % 16) (held ++ bytes)) (first (machineAt size s inFirst n p held))
   unfolding first
   going-first e l = go (eqb (length held) (remainingCount (p / 16 % 8))) refl
     where
       go : (b : Bool) → eqb (length held) (remainingCount (p / 16 % 8)) ≡ b
           → Going size (λ bytes. pairThen size k s (p / 16) (p % 16) (held ++ bytes))
-          (cond b (judged (machine size s inFirst n p held) (p / 16) inSecond second) (silent (machine size s inFirst n p held)))
+          (cond b (judged (machineAt size s inFirst n p held) (p / 16) inSecond second) (silent (machineAt size s inFirst n p held)))
       go true eb =
           going-judged size s n p held (p / 16) inFirst inSecond (eqb-true _ _ eb) second (λ s′ bytes. secondThen size k s′ (p % 16) bytes)
           (λ v. going-second size k (update size s v) (n + 1) p [] (omega arith) (omega arith))
       go false eb = still-in size _ _ (in-first k s n p held e (omega (arith, eqb-false (length held) (remainingCount (p / 16 % 8)) eb)))
 
 -- one byte more is held
-pub held-more : (size : ℕ) (s : Predictors) (state n p : ℕ) (held : List ℕ) (b : ℕ) → machine size s state n p (held ++ b ∷ []) ≡ holding (machine size s state n p held) b
+pub held-more : (size : ℕ) (s : Predictors) (state n p : ℕ) (held : List ℕ) (b : ℕ) → machineAt size s state n p (held ++ b ∷ []) ≡ holding (machineAt size s state n p held) b
 held-more size s state n p held b = rw (length-append held (b ∷ []), from-snoc held b)
 
 snoc-le : (held : List ℕ) (b n : ℕ) → length held < n → length (held ++ b ∷ []) ≤ n
@@ -202,13 +202,13 @@ from-same size more step m n e g = subst (λ (x : Machine). Going size more (ste
 
 module _ (size k : ℕ) (s : Predictors) (n p : ℕ) (held : List ℕ) (b : ℕ) where
   more-first : n + 2 + 2 * k ≡ mostDoubles → length held < remainingCount (p / 16 % 8)
-      → Going size (λ bytes. pairThen size k s (p / 16) (p % 16) (held ++ b ∷ bytes)) (first (holding (machine size s inFirst n p held) b))
+      → Going size (λ bytes. pairThen size k s (p / 16) (p % 16) (held ++ b ∷ bytes)) (first (holding (machineAt size s inFirst n p held) b))
   more-first e l =
       let g = from-same size _ first _ _ (held-more size s inFirst n p held b) (going-first size k s n p (held ++ b ∷ []) e (snoc-le held b _ l)) in
       record { then = g .then; left = g .left; same = λ bytes. g .same bytes ∙ ap (pairThen size k s (p / 16) (p % 16)) (append-snoc held b bytes) }
 
   more-second : n + 1 + 2 * k ≡ mostDoubles → length held < remainingCount (p % 16 % 8)
-      → Going size (λ bytes. secondThen size k s (p % 16) (held ++ b ∷ bytes)) (second (holding (machine size s inSecond n p held) b))
+      → Going size (λ bytes. secondThen size k s (p % 16) (held ++ b ∷ bytes)) (second (holding (machineAt size s inSecond n p held) b))
   more-second e l =
       let g = from-same size _ second _ _ (held-more size s inSecond n p held b) (going-second size k s n p (held ++ b ∷ []) e (snoc-le held b _ l)) in
       record { then = g .then; left = g .left; same = λ bytes. g .same bytes ∙ ap (secondThen size k s (p % 16)) (append-snoc held b bytes) }
