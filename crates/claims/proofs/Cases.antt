@@ -25,7 +25,7 @@ use Rattle.codec.specs.Depth.{wholeWritten, wholeLossyFloats, wholeExactFloats,
 use Rattle.fpc_stream.specs.Predictors.{side, fcmHash, dfcmHash}
 use Rattle.fpc_stream.specs.Stream.{zeroBytes, residual, residualCode, halfByte, remaining, pairBytes, oddBytes, stream}
 use Rattle.fpc_stream.specs.Reading.{decoded, coded, stepOf, read}
-use Rattle.fpc_stream.specs.Outcome.{delivered, readInto}
+use Rattle.fpc_stream.specs.Outcome.{goodSize, goodTables, delivered, readInto}
 use Rattle.fpc_stream.proofs.Rows.{good-tables, read-later}
 use Rattle.bits.specs.Stream.{write}
 use Rattle.params.specs.Width.{zeroWidth, slotsIn}
@@ -33,6 +33,10 @@ use Rattle.codec.specs.Lowest.{planesAt}
 use Rattle.slot_code.specs.Rules.{codedPlanes, readPlanes, codeOf, wordsOf, depthOf, depthIn}
 use Rattle.slots.specs.Outcome.{countOutcome, bitOutcome, storeOutcome, readOutcome, slotOf}
 use Rattle.copier.specs.Copy.{firstUnreadable, copied, copyOutcome}
+use Rattle.transfer_step.specs.Machine.{judgement, judged, second, first, feedByte}
+use Rattle.transfer_step.specs.Record.{fit}
+use Rattle.transfer.specs.Outcome.{openOutcome, pieceOutcome, closeOutcome}
+use Rattle.transfer.specs.Session.{session}
 use Rattle.hex.specs.Digits.{hexDigit, digitValue}
 use Rattle.lines.specs.Line.{wellFormed, parametersOf, firstAnswer, answerLine, slotBytes, storedLine, blockLine}
 use Rattle.claims.specs.Table.{P12, Paper, Ours, Table}
@@ -45,7 +49,7 @@ unfolding plus minus half twiceLess nega unnega flip planeCode planeNext planesC
     readIntegers readExactFloats readLossyFloats readCode wholeWritten wholeLossyFloats wholeExactFloats wholeRead
     planesAt codedPlanes readPlanes zeroWidth slotsIn codeOf wordsOf depthOf depthIn write countOutcome bitOutcome storeOutcome readOutcome slotOf
     firstUnreadable copied copyOutcome leadingZeros side fcmHash dfcmHash zeroBytes residual residualCode halfByte remaining pairBytes oddBytes stream
-    decoded coded stepOf read delivered
+    decoded coded stepOf read delivered judgement judged second first feedByte goodSize goodTables fit openOutcome pieceOutcome closeOutcome session
     flatMap hexDigit digitValue wellFormed parametersOf firstAnswer answerLine slotBytes storedLine blockLine
 computed = 0
 
@@ -106,6 +110,8 @@ ours = (
   refl,
   (refl, refl, refl, refl, refl),
   (refl, refl, refl, refl),
+  (refl, refl, refl, refl, refl, refl, refl, (refl, refl)),
+  (refl, refl, refl),
 )
 
 pub cases : Table

@@ -15,13 +15,14 @@ use Rattle.fpc_stream.specs.Reading.{mostDoubles}
 use Rattle.fpc_stream.specs.Outcome.{goodSize, goodTables, mostBytes}
 use Rattle.fpc_stream.proofs.CodeLaws.{half-lt}
 use Rattle.fpc_stream.proofs.Sound.{Sound, sound-start, sound-update}
-use Rattle.transfer.specs.declared.Transfer.{Transfer}
-use Rattle.transfer.specs.Machine.{Machine, Fed, atPair, inSecond, damaged, opened, second, feed, whole}
-use Rattle.transfer.specs.Calls.{Outcome, Closing, machine, transfer, shut, fit, given, openOutcome, pieceOutcome, closeOutcome}
+use Rattle.transfer_step.specs.declared.Transfer.{Transfer}
+use Rattle.transfer_step.specs.Machine.{Machine, Fed, atPair, inSecond, damaged, opened, second, feed, whole}
+use Rattle.transfer_step.specs.Record.{machine, transfer, shut, fit}
+use Rattle.transfer.specs.Outcome.{Outcome, Closing, given, openOutcome, pieceOutcome, closeOutcome}
 use Rattle.transfer.specs.Session.{Part, session}
-use Rattle.transfer.proofs.FeedLaws.{feed-went}
-use Rattle.transfer.proofs.FitLaws.{fit-of, fit-to, fit-feed}
-use Rattle.transfer.proofs.SessionLaws.{Follows, lent-feed, good-lent, below-left, session-follows, session-f, session-d, cuts-agree}
+use Rattle.transfer_step.proofs.FeedLaws.{feed-went, lent-feed}
+use Rattle.transfer_step.proofs.FitLaws.{fit-of, fit-to, fit-feed}
+use Rattle.transfer.proofs.SessionLaws.{Follows, good-lent, below-left, session-follows, session-f, session-d, cuts-agree}
 use Rattle.transfer.proofs.ReaderLaws.{closes-as-read, hands-out-as-read}
 use Rattle.transfer.proofs.WholeLaws.{machineAt}
 use Rattle.transfer.proofs.RunLaws.{sound-after, run-first, run-then}

@@ -10,9 +10,10 @@ use Rattle.fpc_stream.specs.Predictors.{Predictors, startPredictors, update, af
 use Rattle.fpc_stream.specs.Stream.{halfAfter, remainingAfter, stream, tableF, tableD}
 use Rattle.fpc_stream.specs.Reading.{mostDoubles}
 use Rattle.fpc_stream.specs.Outcome.{goodTables, mostBytes, fpcReadOutcome}
-use Rattle.transfer.specs.declared.Transfer.{Transfer}
-use Rattle.transfer.specs.Machine.{damaged}
-use Rattle.transfer.specs.Calls.{shut, openOutcome, pieceOutcome, closeOutcome}
+use Rattle.transfer_step.specs.declared.Transfer.{Transfer}
+use Rattle.transfer_step.specs.Machine.{damaged}
+use Rattle.transfer_step.specs.Record.{shut}
+use Rattle.transfer.specs.Outcome.{openOutcome, pieceOutcome, closeOutcome}
 use Rattle.transfer.specs.Session.{Part, session}
 
 -- ---- records that are not open

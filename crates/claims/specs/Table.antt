@@ -2,7 +2,7 @@
 use mathlib.Core.Path.{_≡_}
 use mathlib.Core.Bool.{Bool, true, false}
 use mathlib.Core.List.{List, [], _∷_, _++_, map}
-use Prim.Native.Nat.{ℕ, suc, _+_, _-_, _/_, _%_, _^_}
+use Prim.Native.Nat.{ℕ, suc, _+_, _-_, _*_, _/_, _%_, _^_}
 use lib.Ieee.{binary32}
 use lib.ListN.{length, take, replicate}
 use Rattle.bits.specs.Stream.{bit, bitsOf}
@@ -18,6 +18,10 @@ use Rattle.slots.specs.Outcome.{Fetched, countOutcome, bitOutcome, storeOutcome
 use Rattle.copier.specs.Copy.{copyOutcome}
 use Rattle.fpc_stream.specs.Stream.{stream}
 use Rattle.fpc_stream.specs.Outcome.{goodTables, zeroed, fpcReadOutcome}
+use Rattle.transfer_step.specs.Machine.{inFirst}
+use Rattle.transfer_step.specs.Record.{shut}
+use Rattle.transfer.specs.Outcome.{Closing, pieceOutcome, closeOutcome}
+use Rattle.transfer.specs.Session.{Sent, session}
 use Rattle.frames.specs.Listing.{listing}
 use Rattle.claims.specs.Text.{text, textLine}
 
@@ -331,6 +335,39 @@ Copies =
     ≡ record { answer = 14; count = 0; planes = 0; bits = bitsOf (replicate 36 0xff) })
     × (copyOutcome (lossyFloatsAt 32) (one ++ replicate 4 0) new ≡ record { answer = 3; count = 0; planes = 0; bits = bitsOf new })
 
+-- ---- rows of our own: streams in pieces
+
+-- what is sent in these pieces, with just the room that each needs, to tables of 16, whatever they hold
+abbrev pub inPieces : List (List ℕ) → Sent
+inPieces pieces = session (replicate 16 7) (replicate 16 8) (map (λ bytes. record { piece = bytes; room = replicate (2 * length bytes) 9 }) pieces)
+
+-- and what the close says
+abbrev pub closedAfter : List (List ℕ) → Closing
+closedAfter pieces = closeOutcome (inPieces pieces .transfer)
+
+-- P10's 77 gives two doubles with one byte. The first double of 76 goes out while its second half byte waits; 00 is the odd end at once, and any byte after it is
+-- damage. 66 00 is no double in the first place, whatever comes. P11's stream, cut in its first double
+abbrev pub Pieces : Type 0
+Pieces =
+    (inPieces ((0x77 ∷ []) ∷ []) .doubles ≡ 0 ∷ 0 ∷ [])
+    × (inPieces ((0x76 ∷ []) ∷ []) .doubles ≡ 0 ∷ [])
+    × (closedAfter ((0x76 ∷ []) ∷ []) .answer ≡ 23)
+    × (closedAfter ((0x76 ∷ []) ∷ [] ∷ (0x00 ∷ []) ∷ []) ≡ record { answer = 0; count = 1; transfer = shut })
+    × (inPieces ((0x76 ∷ 0x00 ∷ 0x77 ∷ []) ∷ []) .doubles ≡ 0 ∷ [])
+    × (closedAfter ((0x76 ∷ 0x00 ∷ 0x77 ∷ []) ∷ []) .answer ≡ 23)
+    × (inPieces ((0x66 ∷ 0x00 ∷ 0x77 ∷ []) ∷ []) .doubles ≡ [])
+    × (let one : ℕ = 0x3ff0_0000_0000_0000 in
+    let pieces : List (List ℕ) = (0x07 ∷ 0x00 ∷ 0x00 ∷ []) ∷ (0x00 ∷ 0x00 ∷ 0x00 ∷ 0x00 ∷ 0xf0 ∷ 0x3f ∷ []) ∷ [] in
+    (inPieces pieces .doubles ≡ one ∷ one ∷ []) × (closedAfter pieces ≡ record { answer = 0; count = 2; transfer = shut }))
+
+-- half byte 0 and seven bytes 00: no double has an eighth byte 00, and that is no damage before that byte has come
+abbrev pub NotBefore : Type 0
+NotBefore =
+    let s = inPieces ((0x07 ∷ replicate 7 0) ∷ []) in
+    (s .transfer .state ≡ inFirst)
+    × (pieceOutcome (s .transfer) (s .f) (s .d) (0x00 ∷ []) (9 ∷ 9 ∷ []) .answer ≡ 23)
+    × (pieceOutcome (s .transfer) (s .f) (s .d) (0x3f ∷ []) (9 ∷ 9 ∷ []) .count ≡ 2)
+
 -- ---- all
 
 abbrev pub Paper : Type 0
@@ -340,7 +377,7 @@ abbrev pub Ours : Type 0
 Ours =
     WidthZero × BetweenNeighbours × LossyFloats × Answers11 × OrderTold × NegativeHalved × RoundingTie × CutScan × CutTest × CutScanAtLast × CutVerbatim
     × FourAsThree × DfcmTaken × TieTakesFcm × OddThree × HashWraps × RampsTold × WidestSlots × PlanesWritten × PlanesFound × PlanesOfZeros
-    × PlanesLeft × NoPlanesRead × RowThirteen × Listed × ListedBad × Copies
+    × PlanesLeft × NoPlanesRead × RowThirteen × Listed × ListedBad × Copies × Pieces × NotBefore
 
 abbrev pub Table : Type 0
 Table = Paper × Ours

@@ -17,11 +17,11 @@ use Rattle.fpc_stream.specs.Reading.{Found, mostDoubles}
 use Rattle.fpc_stream.proofs.CodeLaws.{half-code}
 use Rattle.fpc_stream.proofs.StepLaws.{length-remaining, step-right}
 use Rattle.fpc_stream.proofs.Sound.{Sound, fcm-lt, dfcm-lt, sound-update}
-use Rattle.transfer.specs.Machine.{Machine, Fed, atPair, inFirst, inSecond, past, silent, gives, judgement, goesOut, judged, odd, second, first, feedByte, feed}
+use Rattle.transfer_step.specs.Machine.{Machine, Fed, atPair, inFirst, inSecond, past, silent, gives, judgement, goesOut, judged, odd, second, first, feedByte, feed}
 use Rattle.transfer.proofs.StepLaws.{odd-none}
-use Rattle.transfer.proofs.FeedLaws.{byte-pair, byte-first, byte-second, feed-append, feed-snoc}
+use Rattle.transfer_step.proofs.FeedLaws.{byte-pair, byte-first, byte-second, feed-append, feed-snoc}
 use Rattle.transfer.proofs.WholeLaws.{machineAt, judges-as-step, held-more}
-use Rattle.transfer.proofs.Branches.{first-waits, first-judged, second-waits, second-judged}
+use Rattle.transfer_step.proofs.Branches.{first-waits, first-judged, second-waits, second-judged}
 
 -- the double v with all its bytes is found
 module _ (size : ℕ) (s : Predictors) (sound : Sound s) (v : ℕ) (hv : v < 2 ^ 64) where

@@ -14,7 +14,8 @@ use Rattle.fpc_stream.specs.Reading.{read, mostDoubles}
 use Rattle.fpc_stream.specs.Outcome.{Outcome, goodTables, mostBytes, unchanged, zeroed, done, delivered, fpcReadOutcome}
 use Rattle.fpc_stream.proofs.OnlyStreams.{read-is-stream}
 use Rattle.fpc_stream.proofs.Lengths.{stream-le}
-use Rattle.transfer.specs.Calls.{Closing, shut, closeOutcome}
+use Rattle.transfer_step.specs.Record.{shut}
+use Rattle.transfer.specs.Outcome.{Closing, closeOutcome}
 use Rattle.transfer.specs.Session.{Part, session, closing}
 use Rattle.transfer.proofs.SessionLaws.{session-closes, session-doubles, session-f, session-d}
 

@@ -10,13 +10,15 @@ use lib.ListN.{length, drop, replicate, length-replicate}
 use lib.Seq.{sets-eq}
 use borrow.Author.Tests.{eqb-true, eq-eqb, ne-eqb, lt-ltb, le-ltb}
 use Rattle.fpc_stream.specs.Outcome.{goodSize, goodTables, mostBytes}
-use Rattle.transfer.specs.declared.Transfer.{Transfer}
+use Rattle.transfer_step.specs.declared.Transfer.{Transfer}
 use Rattle.transfer.specs.declared.Answered.{Answered}
-use Rattle.transfer.specs.declared.Taken.{Taken}
-use Rattle.transfer.specs.Machine.{Machine, atPair, ended, damaged, opened, feed}
-use Rattle.transfer.specs.Calls.{Outcome, Closing, machine, transfer, shut, fit, given, openOutcome, pieceOutcome, closeOutcome}
-use Rattle.transfer.specs.Code.{Standing, Gave, called, calledOff}
-use Rattle.transfer.proofs.FeedLaws.{feed-went}
+use Rattle.transfer_step.specs.declared.Taken.{Taken}
+use Rattle.transfer_step.specs.Machine.{Machine, atPair, ended, damaged, opened, feed}
+use Rattle.transfer_step.specs.Record.{machine, transfer, shut, fit}
+use Rattle.transfer.specs.Outcome.{Outcome, Closing, given, openOutcome, pieceOutcome, closeOutcome}
+use Rattle.transfer_step.specs.Calls.{Standing, Gave}
+use Rattle.transfer.specs.Calls.{called, calledOff}
+use Rattle.transfer_step.proofs.FeedLaws.{feed-went}
 
 -- a reply, and what the lent slices hold beside it
 abbrev beside : List ℕ → List ℕ → List ℕ → Closing → Outcome

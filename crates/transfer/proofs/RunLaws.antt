@@ -16,10 +16,10 @@ use Rattle.fpc_stream.specs.Reading.{mostDoubles}
 use Rattle.fpc_stream.specs.Outcome.{goodSize}
 use Rattle.fpc_stream.proofs.RoundTrip.{read-stream}
 use Rattle.fpc_stream.proofs.Sound.{Sound, sound-start, sound-update}
-use Rattle.transfer.specs.Machine.{Machine, Fed, atPair, ended, opened, gives, feed, whole}
-use Rattle.transfer.specs.Calls.{heldBelow}
-use Rattle.transfer.proofs.FeedLaws.{feed-went, feed-append}
-use Rattle.transfer.proofs.FitLaws.{Fit, Counted, at-pair, in-first, in-second, after-end, after-damage, fit-feed, fit-opened}
+use Rattle.transfer_step.specs.Machine.{Machine, Fed, atPair, ended, opened, gives, feed, whole}
+use Rattle.transfer_step.specs.Record.{heldBelow}
+use Rattle.transfer_step.proofs.FeedLaws.{feed-went, feed-append}
+use Rattle.transfer_step.proofs.FitLaws.{Fit, Counted, at-pair, in-first, in-second, after-end, after-damage, fit-feed, fit-opened}
 use Rattle.transfer.proofs.WholeLaws.{machineAt, feed-read}
 
 -- the predictors after doubles have doubles in their table

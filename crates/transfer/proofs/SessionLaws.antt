@@ -14,33 +14,14 @@ use Rattle.fpc_stream.specs.Predictors.{Predictors, startPredictors, update, af
 use Rattle.fpc_stream.specs.Stream.{tableF, tableD}
 use Rattle.fpc_stream.specs.Reading.{read}
 use Rattle.fpc_stream.specs.Outcome.{goodSize, goodTables, mostBytes}
-use Rattle.transfer.specs.declared.Transfer.{Transfer}
-use Rattle.transfer.specs.Machine.{Machine, Fed, damaged, opened, turned, silent, gives, damage, feed, whole}
-use Rattle.transfer.specs.Calls.{Outcome, machine, transfer, shut, heldBelow, given, openOutcome, pieceOutcome, closeOutcome}
+use Rattle.transfer_step.specs.declared.Transfer.{Transfer}
+use Rattle.transfer_step.specs.Machine.{Machine, Fed, damaged, opened, turned, silent, gives, damage, feed, whole}
+use Rattle.transfer_step.specs.Record.{machine, transfer, shut, heldBelow}
+use Rattle.transfer.specs.Outcome.{Outcome, given, openOutcome, pieceOutcome, closeOutcome}
 use Rattle.transfer.specs.Session.{Part, Sent, taken, sent, session, closing}
-use Rattle.transfer.proofs.FeedLaws.{feed-append, feed-went, byte-damaged}
+use Rattle.transfer_step.proofs.FeedLaws.{Lent, lent-feed, feed-append, feed-went, byte-damaged}
 use Rattle.transfer.proofs.WholeLaws.{feed-read}
-use Rattle.transfer.proofs.FitLaws.{Fit, fit-feed, fit-opened, fit-to}
-
--- the tables have the size that the machine was opened with
-abbrev pub Lent : Machine → Type 0
-Lent m = (length (m .at .f) ≡ m .size) × (length (m .at .d) ≡ m .size)
-
-after-f : (size : ℕ) (s : Predictors) (vs : List ℕ) → length (after size s vs .f) ≡ length (s .f)
-after-f size s [] = refl
-after-f size s (v ∷ vs) = after-f size (update size s v) vs ∙ simp length-set
-
-after-d : (size : ℕ) (s : Predictors) (vs : List ℕ) → length (after size s vs .d) ≡ length (s .d)
-after-d size s [] = refl
-after-d size s (v ∷ vs) = after-d size (update size s v) vs ∙ simp length-set
-
-pub lent-feed : (m : Machine) (bytes : List ℕ) → Lent m → Lent (feed m bytes .to)
-lent-feed m bytes (ef, ed) =
-    let w = feed-went m bytes in
-    let vs = feed m bytes .doubles in (
-      ap (λ (s : Predictors). length (s .f)) (w .at-is) ∙ after-f (m .size) (m .at) vs ∙ ef ∙ sym (w .size-is),
-      ap (λ (s : Predictors). length (s .d)) (w .at-is) ∙ after-d (m .size) (m .at) vs ∙ ed ∙ sym (w .size-is),
-    )
+use Rattle.transfer_step.proofs.FitLaws.{Fit, fit-feed, fit-opened, fit-to}
 
 -- bytes on both sides of a seam
 pub below-left : (n : ℕ) (xs ys : List ℕ) → AllBelow n (xs ++ ys) → 0 < n → AllBelow n xs

@@ -14,7 +14,7 @@ use Rattle.fpc_stream.specs.Bytes.{fromBytes}
 use Rattle.fpc_stream.specs.Predictors.{Predictors, startPredictors, fcm, dfcm, prediction, update, after}
 use Rattle.fpc_stream.specs.Stream.{remainingCount, oddHalf, oddByte}
 use Rattle.fpc_stream.specs.Reading.{Found, stepOf, oddEnd, andThen, readPairs, mostDoubles, read}
-use Rattle.transfer.specs.Machine.{Machine, Fed, atPair, inFirst, inSecond, ended, damaged, opened, turned, holding, silent, gives, damage, complete, goesOut, judgement, judged, odd, second, first, feedByte, feed, whole, accepted}
+use Rattle.transfer_step.specs.Machine.{Machine, Fed, atPair, inFirst, inSecond, ended, damaged, opened, turned, holding, silent, gives, damage, complete, goesOut, judgement, judged, odd, second, first, feedByte, feed, whole, accepted}
 use Rattle.transfer.proofs.StepLaws.{from-snoc, step-short, step-complete, odd-none}
 
 abbrev pub machineAt : ℕ → Predictors → ℕ → ℕ → ℕ → List ℕ → Machine

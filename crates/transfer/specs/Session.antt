@@ -5,8 +5,9 @@ use mathlib.Core.Option.{Option, none, some}
 use Prim.Native.Nat.{ℕ}
 use lib.Dec.{eqb}
 use lib.ListN.{length, take}
-use Rattle.transfer.specs.declared.Transfer.{Transfer}
-use Rattle.transfer.specs.Calls.{Outcome, Closing, shut, openOutcome, pieceOutcome}
+use Rattle.transfer_step.specs.declared.Transfer.{Transfer}
+use Rattle.transfer_step.specs.Record.{shut}
+use Rattle.transfer.specs.Outcome.{Outcome, Closing, openOutcome, pieceOutcome}
 
 -- a piece and the room that is lent with it
 pub record Part : Type 0 where

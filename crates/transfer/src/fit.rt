@@ -1,13 +1,13 @@
 // Which records count as open: those that an opening and pieces can have made.
-use super::Transfer;
-use super::machine::needed;
-use super::machine::power;
 use fpc::good_size;
+use transfer_step::Transfer;
+use transfer_step::needed;
+use transfer_step::power;
 ghost use mathlib.Core.Path.{_≡_};
 ghost use mathlib.Core.Bool.{_&&_};
 ghost use lib.Dec.{ltb};
 ghost use Prim.Native.Nat.{_^_};
-ghost use Rattle.transfer.specs.Calls.{heldBelow, givenFits, fit};
+ghost use Rattle.transfer_step.specs.Record.{heldBelow, givenFits, fit};
 
 fn both(a: bool, b: bool) -> bool
     ensures { λ r. ⌜ r ≡ (a && b) ⌝ }

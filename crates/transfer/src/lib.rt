@@ -1,40 +1,19 @@
 // An FPC stream read as it comes, in pieces: document 02's "Modem pieces". A record of the transfer goes in by value and comes back; the exported
 // calls update it in place.
 mod fit;
-mod machine;
 
 use fit::fits;
 use fpc::good_lengths;
 use fpc_run::Reply;
 use fpc_step::slices::clear;
-use machine::fed;
+use transfer_step::Transfer;
+use transfer_step::fed;
 ghost use mathlib.Core.Path.{_≡_};
 ghost use mathlib.Core.Bool.{cond};
 ghost use mathlib.Core.List.{[]};
 ghost use lib.Dec.{eqb};
-ghost use Rattle.transfer.specs.Calls.{openOutcome, pieceOutcome, closeOutcome};
-ghost use Rattle.transfer.specs.Code.{called, calledOff};
-
-// Where a transfer stands. `state`: closed 0, at a pair's byte 1, in its first double 2, in its second 3, after the odd end 4, damaged 5.
-// `pair` is the pair's byte; `held` bytes of the double in hand came, and `value` is their number.
-#[repr(C)]
-pub struct Transfer {
-    pub state: u32,
-    pub given: u32,
-    pub pair: u32,
-    pub held: u32,
-    pub value: u64,
-    pub last: u64,
-    pub size: usize,
-    pub h: usize,
-    pub g: usize,
-}
-
-// What bytes leave: the transfer, and the place of the next double in the output.
-pub struct Taken {
-    pub transfer: Transfer,
-    pub next: usize,
-}
+ghost use Rattle.transfer.specs.Outcome.{openOutcome, pieceOutcome, closeOutcome};
+ghost use Rattle.transfer.specs.Calls.{called, calledOff};
 
 // What a call answers, and the record after it.
 pub struct Answered {

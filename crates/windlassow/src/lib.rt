@@ -7,8 +7,8 @@ ghost use Rattle.slots.specs.Calls.{replied, stored, fetched};
 ghost use Rattle.copier.specs.Copy.{copyOutcome};
 ghost use Rattle.fpc_stream.specs.Outcome.{fpcWriteOutcome, fpcReadOutcome};
 ghost use Rattle.fpc.specs.Calls.{outcome};
-ghost use Rattle.transfer.specs.Calls.{openOutcome, pieceOutcome, closeOutcome};
-ghost use Rattle.transfer.specs.Code.{called, calledOff};
+ghost use Rattle.transfer.specs.Outcome.{openOutcome, pieceOutcome, closeOutcome};
+ghost use Rattle.transfer.specs.Calls.{called, calledOff};
 ghost use Rattle.windlassow.specs.Calls.{params};
 
 // The record of the parameters. The host's lowest exponent is an i32, which arrives as the u32 of the same bits.
@@ -163,7 +163,7 @@ pub extern "C" fn windlassow_fpc_read(
 // A transfer is opened.
 #[no_mangle]
 pub extern "C" fn windlassow_transfer_open(
-    transfer: &mut transfer::Transfer,
+    transfer: &mut transfer_step::Transfer,
     f: &mut [u64],
     d: &mut [u64],
 ) -> fpc_run::Reply
@@ -179,7 +179,7 @@ pub extern "C" fn windlassow_transfer_open(
 // The next piece of the stream.
 #[no_mangle]
 pub extern "C" fn windlassow_transfer_piece(
-    transfer: &mut transfer::Transfer,
+    transfer: &mut transfer_step::Transfer,
     f: &mut [u64],
     d: &mut [u64],
     piece: &[u8],
@@ -196,7 +196,7 @@ pub extern "C" fn windlassow_transfer_piece(
 
 // A transfer is closed.
 #[no_mangle]
-pub extern "C" fn windlassow_transfer_close(transfer: &mut transfer::Transfer) -> fpc_run::Reply
+pub extern "C" fn windlassow_transfer_close(transfer: &mut transfer_step::Transfer) -> fpc_run::Reply
     ensures { λ r. ⌜ calledOff r (now (transfer .exit)) ≡ closeOutcome (now (transfer .entry)) ⌝ }
 {
     let r = transfer::close(*transfer);

@@ -2,8 +2,8 @@
 use mathlib.Core.Path.{sym, _∙_}
 use native.Mathlib.Omega.{arith}
 use borrow.Author.Tests.{not-true, not-false}
-use Rattle.transfer.specs.Calls.{machine}
-use Rattle.transfer.proofs.FeedLaws.{feed-went}
+use Rattle.transfer_step.specs.Record.{machine}
+use Rattle.transfer_step.proofs.FeedLaws.{feed-went}
 use Rattle.transfer.proofs.Rows.{piece-25, piece-20, piece-other, stands, piece-21, piece-23, piece-22, piece-done}
 use borrow.Author.Needs.{needs}
 use Rattle.transfer.proofs.piece.Statement.{statement}

@@ -9,8 +9,8 @@ use Rattle.windlassow.proofs.Thin.{Given, ‵, raw, _⊛_, _$_, _∵_, 
 use Rattle.windlassow.proofs.Thin.{look, look-raw, init, store-raw, stop, hop, fld, from, load, of-opd, and-then, no-more, assigns, land, returns, enter, params1, pass1, pass0, free0, whole, sub, look-in, fmOf}
 use Rattle.windlassow.proofs.Thin.{owns, flat, Is, Are, Ises, Spells, valss, MutRef, ptr-vals, mut-tells, slice-vals, mut-slice-tells, shr-slice-tells, owned, typesAt, Args, Vals, alive, onEntry, Contract, Triple, calls-at, tripleOf, entered, cited, says, walkOf, ends-at}
 use Rattle.windlassow.proofs.Thin.{tailOf, lefts, fits-lefts, meets-by, locals, gone, record-opens, record-closes, lends, asks, answered}
-use Rattle.transfer.proofs.Transfer as T
-use Rattle.transfer.proofs.Transfer.Laws as T′
+use Rattle.transfer_step.proofs.Transfer as T
+use Rattle.transfer_step.proofs.Transfer.Laws as T′
 use Rattle.fpc_run.proofs.Reply as R
 use Rattle.fpc_run.proofs.Reply.Laws as R′
 use Rattle.transfer.proofs.Answered as F

@@ -1,5 +1,5 @@
 -- `transfer::fit::fits` meets its contract: its calls are the parts of `fit`. Assumes nothing.
-use Rattle.transfer.specs.Calls.{fit}
+use Rattle.transfer_step.specs.Record.{fit}
 use borrow.Author.Needs.{needs}
 use Rattle.transfer.proofs.fit.fits.Statement.{statement}
 use Rattle.transfer.proofs.fit.fits.Tie as tie
