@@ -8,6 +8,10 @@
  *   overlap another one of the same call, and no other thread may use it while the call runs.
  *   The library keeps no pointer, has no state of its own and allocates nothing. Any numbers may
  *   be passed and any bytes may stand in a buffer: what does not fit is refused by an answer number.
+ *   The record of a transfer is lent too, as a pointer to one struct, and the same holds of it: not null,
+ *   aligned, no overlap, no other thread, and any bits may stand in it. A struct of zeros is a closed one,
+ *   and so is one that holds what opening and pieces cannot have made. A record may be kept together with
+ *   both tables and used later, also by another process on the same kind of machine.
  *
  * Stack
  *   No call takes more than WINDLASSOW_STACK_BYTES of stack. The most is taken by a store of 256
@@ -15,7 +19,8 @@
  *
  * Answers
  *   If several refusals apply, the one of the lowest number is given, except that 13 comes between 5
- *   and 6, 14 before 11 and 23 before 22.
+ *   and 6, 14 before 11 and 23 before 22. Of a piece 25 comes before 20, and 23 before 22 only if an
+ *   earlier piece was damaged.
  *
  *    no.  meaning                                                              count
  *     0   done                                                                 see each call
@@ -32,14 +37,23 @@
  *    10   exact: the code of the block is longer than the slot                 bits it needs
  *    14   the new archive has fewer slots than the old one                     0
  *    11   exact: the slot holds no block's code followed by zeros              0; of a copy the slot's number
- *    20   the FPC tables are not of one length, a power of two 16 to 1,024     0
+ *    20   the FPC tables are not of one length, a power of two 16 to 1,024;
+ *         of a piece, or not of the length that they had at the opening        0
  *    21   more than 4,096 doubles to write, or 65,536 bytes to read            0
  *    22   the output is longer than the room lent                              bytes or doubles it needs
+ *         of a piece: the room is for fewer doubles than twice its bytes       twice its bytes
  *    23   the bytes are not the FPC stream, for tables of this length, of any
  *         run of at most 4,096 doubles                                         0
+ *         of a piece: it is damaged (see Pieces), or an earlier one was        doubles it gave; 0 if earlier
+ *         of a close: the pieces together are not such a stream                0
+ *    25   the transfer is not open                                             0
  *
- *   Answers 1 to 11, 13, 14, 20 and 21 leave every buffer as it was.
- *   Answers 22 and 23 leave the output as it was and both tables zero.
+ *   Answers 1 to 11, 13, 14, 20, 21 and 25 leave every buffer as it was, but 20 of an opening closes the
+ *   record.
+ *   Answers 22 and 23 of a whole stream leave the output as it was and both tables zero.
+ *   Answer 22 of a piece leaves everything as it was, and so does 23 if an earlier piece was damaged.
+ *   Answer 23 of the damaged piece itself leaves the doubles before the damage in the output, and the
+ *   tables as after them. Answer 23 of a close closes the record.
  *   Refusals report 0 planes, answer 10 too. The planes of a done call are with each call.
  *
  * Planes
@@ -76,6 +90,7 @@
  *   entries of an FPC table       a power of two from 16 to 1,024, the same for both
  *   doubles of a run              4,096
  *   bytes to read as a stream     65,536; no run's stream is longer than 34,816
+ *   bytes of a piece              65,536
  *
  * Archives
  *   Slot k starts at bit kW. Bit t of an archive is bit t mod 8 of byte t / 8, lowest first.
@@ -87,12 +102,28 @@
  *   slots are now sought at other places, and what stands there may be read as other blocks.
  *   windlassow_copy takes it to full slots.
  *
+ * Pieces
+ *   An FPC stream can be read as it comes: open a transfer, pass piece after piece, close it. The stream may
+ *   be cut anywhere, and pieces may be empty. Each double is given with the byte that makes it known, so
+ *   the doubles do not depend on the cuts. A piece that is refused with 20, 21, 22 or 25 is not part of the
+ *   stream and can be passed again. From the opening to the close nothing else may change the record or
+ *   the tables.
+ *
+ *   The doubles are given before the stream is known to be whole. What counts is the close: 0 says that
+ *   they are the whole run, the one that windlassow_fpc_read gives for all pieces together with room
+ *   enough, and 23 that it gives none.
+ *
+ *   A piece is damaged where a double is complete that the rules code otherwise, and where a byte comes
+ *   after 4,096 doubles or after an odd end, which is half byte 6 in second place and then a byte 00. The
+ *   piece gives the doubles before that. Every later piece is refused with 23, and so is the close.
+ *
  * Damage is not detected
  *   Answers 11 and 23 say that no block or run has these bits. They are no check of the bytes: a
  *   damaged slot or stream is often another block's or run's own code and is then read as that
  *   one, with answer 0. A slot of zeros reads as zeros. Of 62 damaged slots of exact readings 32
  *   were answered 11 (docs/TRUST.md has the counts). If bytes can be lost, keep a checksum of the
- *   archive or stream beside it. A lossy read never answers 11.
+ *   archive or stream beside it. A lossy read never answers 11. Of a damaged stream in pieces, doubles
+ *   that were never written may be given before a 23. A stream cut off between two pairs is a whole one.
  *
  * Building
  *   rt staticlib windlassow      proves the crates, which takes minutes the first time, and writes
@@ -134,7 +165,8 @@ enum {
     WINDLASSOW_INVALID_TABLES = 20,
     WINDLASSOW_INPUT_TOO_LONG = 21,
     WINDLASSOW_OUTPUT_TOO_LONG = 22,
-    WINDLASSOW_NOT_A_STREAM = 23
+    WINDLASSOW_NOT_A_STREAM = 23,
+    WINDLASSOW_TRANSFER_CLOSED = 25
 };
 
 /* Limits, as in the table above. */
@@ -165,6 +197,9 @@ enum { WINDLASSOW_STACK_BYTES = 80 * 1024 };
 /* Room for the stream of any run of n doubles, in bytes. */
 #define WINDLASSOW_STREAM_ROOM(n) (17 * (((n) + 1) / 2))
 
+/* Room for the doubles of any piece of n bytes, in doubles. */
+#define WINDLASSOW_PIECE_ROOM(n) (2 * (n))
+
 /*
  * What a slot call returns: the answer number, its count and the planes.
  *
@@ -181,6 +216,23 @@ struct windlassow_reply {
 struct windlassow_fpc_reply {
     uint32_t answer;
     uint32_t count;
+};
+
+/*
+ * The record of a transfer: where it stands. Each piece updates it in place.
+ * Read given at any time; what the other numbers mean is the library's own affair.
+ */
+struct windlassow_transfer {
+    uint32_t state; /* closed 0, at a pair's byte 1, in its first double 2, in its second 3,
+                       after the odd end 4, damaged 5 */
+    uint32_t given; /* the doubles given so far */
+    uint32_t pair;  /* the byte of the last pair begun */
+    uint32_t held;  /* how many bytes of the double in hand have come */
+    uint64_t value; /* the number that these bytes make */
+    uint64_t last;  /* the last double */
+    size_t size;    /* the length of the tables */
+    size_t h;       /* the hash of the fcm side */
+    size_t g;       /* the hash of the dfcm side */
 };
 
 /*
@@ -253,6 +305,31 @@ struct windlassow_fpc_reply windlassow_fpc_write(
 struct windlassow_fpc_reply windlassow_fpc_read(
     uint64_t *f, size_t f_len, uint64_t *d, size_t d_len,
     const uint8_t *stream, size_t stream_len, uint64_t *doubles, size_t doubles_len);
+
+/*
+ * Opens a transfer and zeroes both tables. The tables must have the length that the writer's had.
+ * What the record and the tables hold does not matter: a record that is open starts anew.
+ * Answers 0 and 20. Count: 0. With 20 the record is closed and the tables are as they were.
+ */
+struct windlassow_fpc_reply windlassow_transfer_open(
+    struct windlassow_transfer *transfer, uint64_t *f, size_t f_len, uint64_t *d, size_t d_len);
+
+/*
+ * Takes the next piece of the stream. The tables are those of the opening, as the last piece left them.
+ * There must be room for WINDLASSOW_PIECE_ROOM(piece_len) doubles.
+ * Answers 0, 20 to 23 and 25. Count when done, and with 23: the doubles that this piece gave. They stand at
+ * the start of the buffer; past them it is as it was, and the tables stand as after the last one given.
+ */
+struct windlassow_fpc_reply windlassow_transfer_piece(
+    struct windlassow_transfer *transfer, uint64_t *f, size_t f_len, uint64_t *d, size_t d_len,
+    const uint8_t *piece, size_t piece_len, uint64_t *doubles, size_t doubles_len);
+
+/*
+ * Closes a transfer. The tables are not needed for it.
+ * Answers 0, 23 and 25. Count when done: the doubles of the whole transfer. With 0 and with 23 the record is
+ * closed, all zeros.
+ */
+struct windlassow_fpc_reply windlassow_transfer_close(struct windlassow_transfer *transfer);
 
 #ifdef __cplusplus
 }

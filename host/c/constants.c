@@ -31,6 +31,7 @@ IS(WINDLASSOW_INVALID_TABLES, 20);
 IS(WINDLASSOW_INPUT_TOO_LONG, 21);
 IS(WINDLASSOW_OUTPUT_TOO_LONG, 22);
 IS(WINDLASSOW_NOT_A_STREAM, 23);
+IS(WINDLASSOW_TRANSFER_CLOSED, 25);
 
 IS(WINDLASSOW_MAX_PLANES, 32);
 IS(WINDLASSOW_MIN_WIDTH, 16);
@@ -47,6 +48,22 @@ IS(WINDLASSOW_MAX_STREAM_LEN, 65536);
 typedef char reply_size[sizeof(struct windlassow_reply) == 12 ? 1 : -1];
 typedef char fpc_reply_size[sizeof(struct windlassow_fpc_reply) == 8 ? 1 : -1];
 
+/* The record of a transfer, as Rust's TransferRecord has it: where a field stands and its bytes. */
+#define FIELD(name, offset, bytes) \
+    typedef char name##_offset[offsetof(struct windlassow_transfer, name) == (offset) ? 1 : -1]; \
+    typedef char name##_bytes[sizeof(((struct windlassow_transfer *)0)->name) == (bytes) ? 1 : -1]
+
+FIELD(state, 0, 4);
+FIELD(given, 4, 4);
+FIELD(pair, 8, 4);
+FIELD(held, 12, 4);
+FIELD(value, 16, 8);
+FIELD(last, 24, 8);
+FIELD(size, 32, 8);
+FIELD(h, 40, 8);
+FIELD(g, 48, 8);
+typedef char transfer_size[sizeof(struct windlassow_transfer) == 56 ? 1 : -1];
+
 /* The Rust interface has the same, and is asked for it where this is compiled. */
 IS(WINDLASSOW_STACK_BYTES, RUST_STACK_BYTES);
 
@@ -58,3 +75,5 @@ typedef char full_width[WINDLASSOW_FULL_WIDTH(WINDLASSOW_BLOCK_LEN(1)) == 146 ? 
 typedef char widest_full[WINDLASSOW_FULL_WIDTH(WINDLASSOW_BLOCK_LEN(4)) == WINDLASSOW_MAX_WIDTH ? 1 : -1];
 typedef char longest_stream[WINDLASSOW_STREAM_ROOM(WINDLASSOW_MAX_RUN_LEN) == 34816 ? 1 : -1];
 typedef char odd_stream[WINDLASSOW_STREAM_ROOM(1) == 17 ? 1 : -1];
+typedef char piece_room[WINDLASSOW_PIECE_ROOM(4 + 5) == 18 ? 1 : -1];
+typedef char no_piece_room[WINDLASSOW_PIECE_ROOM(0) == 0 ? 1 : -1];

@@ -1,4 +1,4 @@
-/* The seven calls of windlassow.h, on cases of the papers. Compiles as C99 and as C++. From the repository's folder:
+/* The ten calls of windlassow.h, on cases of the papers. Compiles as C99 and as C++. From the repository's folder:
  *   rt staticlib windlassow
  *   cc -I include host/c/example.c target/staticlib/libwindlassow.a -o target/example
  */
@@ -116,6 +116,36 @@ static void fpc(void) {
     print_fpc("fpc_write", windlassow_fpc_write(f, 16, d, 8, run, 2, out, 8));
 }
 
+/* The stream of two 1.0 in two pieces, the second at first with too little room; then a damaged one. */
+static void transfer(void) {
+    enum { FIRST = 4, SECOND = 5 };
+    const uint8_t stream[FIRST + SECOND] = {0x07, 0, 0, 0, 0, 0, 0, 0xf0, 0x3f}, damaged[4] = {0x77, 0x66, 0, 0x07};
+    const uint64_t run[2] = {0x3ff0000000000000, 0x3ff0000000000000};
+    uint64_t f[16], d[16], doubles[WINDLASSOW_PIECE_ROOM(SECOND)];
+    struct windlassow_transfer t;
+    memset(&t, 0xff, sizeof t);
+    print_fpc("transfer_close", windlassow_transfer_close(&t));
+    print_fpc("transfer_open", windlassow_transfer_open(&t, f, 16, d, 16));
+    print_fpc("transfer_piece", windlassow_transfer_piece(&t, f, 16, d, 16, stream, FIRST, doubles, 8));
+    print_fpc("transfer_piece", windlassow_transfer_piece(&t, f, 16, d, 16, stream + FIRST, SECOND, doubles, 9));
+    print_fpc("transfer_piece", windlassow_transfer_piece(&t, f, 16, d, 16, stream + FIRST, SECOND, doubles, 10));
+    printf("%d, given %u\n", memcmp(run, doubles, sizeof run) == 0, (unsigned)t.given);
+    print_fpc("transfer_close", windlassow_transfer_close(&t));
+    struct windlassow_fpc_reply late = windlassow_transfer_piece(&t, f, 16, d, 16, stream, FIRST, doubles, 8);
+    print_fpc("transfer_piece", late);
+    if (late.answer == WINDLASSOW_TRANSFER_CLOSED) printf("the transfer is not open\n");
+
+    print_fpc("transfer_open", windlassow_transfer_open(&t, f, 16, d, 16));
+    print_fpc("transfer_piece", windlassow_transfer_piece(&t, f, 16, d, 16, damaged, sizeof damaged, doubles, 8));
+    printf("%d %d\n", (int)doubles[0], (int)doubles[1]);
+    print_fpc("transfer_piece", windlassow_transfer_piece(&t, f, 16, d, 16, stream, FIRST, doubles, 0));
+    print_fpc("transfer_close", windlassow_transfer_close(&t));
+
+    print_fpc("transfer_open", windlassow_transfer_open(&t, f, 16, d, 16));
+    print_fpc("transfer_open", windlassow_transfer_open(&t, f, 16, d, 8));
+    print_fpc("transfer_piece", windlassow_transfer_piece(&t, f, 16, d, 8, stream, FIRST, doubles, 8));
+}
+
 int main(void) {
     slots();
     lossy();
@@ -123,5 +153,6 @@ int main(void) {
     cubes();
     copy();
     fpc();
+    transfer();
     return 0;
 }

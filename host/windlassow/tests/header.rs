@@ -44,6 +44,23 @@ fpc_read: answer 0, count 2
 fpc_read: answer 23, count 0
 fpc_write: answer 22, count 9
 fpc_write: answer 20, count 0
+transfer_close: answer 25, count 0
+transfer_open: answer 0, count 0
+transfer_piece: answer 0, count 0
+transfer_piece: answer 22, count 10
+transfer_piece: answer 0, count 2
+1, given 2
+transfer_close: answer 0, count 2
+transfer_piece: answer 25, count 0
+the transfer is not open
+transfer_open: answer 0, count 0
+transfer_piece: answer 23, count 2
+0 0
+transfer_piece: answer 23, count 0
+transfer_close: answer 23, count 0
+transfer_open: answer 0, count 0
+transfer_open: answer 20, count 0
+transfer_piece: answer 25, count 0
 ";
 
 // The 47 bits of 256 times 215: the first coefficient is 215, in negabinary 100101011. 5 bits of p - 1 = 31, planes 31 to 9
@@ -59,6 +76,12 @@ fpc_write: answer 20, count 0
 //
 // The 31 bits of four times 256, 2^8 in negabinary too: 5 bits of p - 1 = 23, planes 31 to 9 empty, 110. Four times 1 take 39
 // bits, as P2 has them, more than the 32 of a slot of 8 bits a word. Three full slots are 438 bits, 55 bytes; 54 have two.
+//
+// The pieces of P11's stream of two 1.0: the first four bytes are the pair's and three of the eight of its first double. The
+// other five make it known, and with it the second, which has none. Room for 5 bytes is 10 doubles; 9 are refused, and the piece
+// is passed again. Of 77 66 00 07 the first byte is two zeros, as in P10; 66 00 is no double's code, as in P12: a xor of zero
+// has code 7. After that damage a piece has 23 before 22. An opening with tables of 16 and 8 is refused and closes the open record,
+// so that a piece with these tables has 25, which comes before 20.
 
 /// Compiles the example in a language, links and runs it, and compares what it prints.
 fn run_as(language: &str, standard: &str) {
