@@ -7,6 +7,7 @@ mod copy;
 mod data;
 mod fpc;
 mod growth;
+mod pieces;
 mod slots;
 mod timing;
 
@@ -36,6 +37,7 @@ fn main() {
     slots::table(lib.as_ref().ok());
     copy::table();
     fpc::table();
+    pieces::table();
     growth::with_words();
     growth::with_planes();
     growth::with_width_and_archive();
