@@ -99,6 +99,19 @@ fn the_limits_are_the_librarys() {
     assert_eq!(damaged, Err(Refusal::Damaged { doubles: 0 }));
 }
 
+/// Pairs of zeros, a byte each: the run of the most doubles is whole, and any byte after it is damage.
+#[test]
+fn the_most_doubles_of_a_transfer() {
+    let mut transfer = Transfer::open([0; 16], [0; 16]).unwrap();
+    let mut doubles = vec![9; MAX_RUN_LEN];
+    assert_eq!(transfer.feed(&vec![0x77; MAX_RUN_LEN / 2], &mut doubles), Ok(MAX_RUN_LEN));
+    assert!(doubles.iter().all(|&double| double == 0));
+    assert_eq!(transfer.clone().finish(), Ok(MAX_RUN_LEN));
+    assert_eq!(transfer.feed(&[0x77], &mut doubles[..1]), Err(Refusal::PieceRoom { needed: 2 }));
+    assert_eq!(transfer.feed(&[0x77], &mut doubles), Err(Refusal::Damaged { doubles: 0 }));
+    assert_eq!((transfer.doubles(), transfer.finish()), (MAX_RUN_LEN, Err(Refusal::NotWhole)));
+}
+
 /// Any patterns: -0, infinities, a NaN with a payload, a signalling one.
 #[test]
 fn blocks_of_floats_come_back_bit_for_bit() {
@@ -350,6 +363,23 @@ fn a_transfer_over_arrays_vectors_and_lent_tables() {
     assert_eq!(Transfer::open(&mut f[..], &mut d[..16]).unwrap_err(), Refusal::InvalidTables);
     assert_eq!(Transfer::open(vec![], vec![]).unwrap_err(), Refusal::InvalidTables);
     assert_eq!((f[0], d[0]), (8, 3));
+}
+
+/// 5 and 8, and then 66 and 00: a double with code 6 that has code 7. The tables stand as after 8, and the room past both is as it was.
+/// A later piece changes nothing.
+#[test]
+fn damage_leaves_what_came_before_it() {
+    let (mut f, mut d, mut doubles) = ([7; 16], [7; 16], [9; 12]);
+    let mut record = TransferRecord::default();
+    record.open(&mut f, &mut d).unwrap();
+    let stream = [&FIVE_AND_EIGHT[..], &[0x66, 0x00, 0x77]].concat();
+    let damaged = record.piece(&mut f, &mut d, &stream, &mut doubles);
+    assert_eq!(damaged, Err(Refusal::Damaged { doubles: 2 }));
+    let later = record.piece(&mut f, &mut d, &[0x77], &mut doubles);
+    assert_eq!(later, Err(Refusal::Damaged { doubles: 0 }));
+    assert_eq!((record.given, &doubles[..]), (2, &[5, 8, 9, 9, 9, 9, 9, 9, 9, 9, 9, 9][..]));
+    assert_eq!((f[0], d[0]), (8, 3));
+    assert!(f[1..].iter().chain(&d[1..]).all(|&entry| entry == 0));
 }
 
 /// After 5 one goes on with 8 and the other with 9: 9 xor 10 = 3 is less than 9 xor 5 = 12. Then F[0] is the last double, so that

@@ -163,13 +163,15 @@ fn a_stream_that_is_cut_off() {
     refused(&sample[..1], "", "receive: cut off after 0 doubles: ");
 }
 
-/// After the first pair 66 and 00: a double with code 6 that has code 7. And a byte after the odd end.
+/// After the first pair 66 and 00: a double with code 6 that has code 7. And a byte after the odd end, 00 too.
 #[test]
 fn a_damaged_stream() {
     let mut bytes = sample();
     bytes[17] = 0x66;
     refused(&bytes, "4.0\n4.0\n", "receive: damaged after 2 doubles\n");
-    refused(&[&sample()[..], &[0x77]].concat(), &printed(), "receive: damaged after 13 doubles\n");
+    for more in [0x00, 0x77] {
+        refused(&[&sample()[..], &[more]].concat(), &printed(), "receive: damaged after 13 doubles\n");
+    }
 }
 
 /// One double, coded as P11: half byte 0, its eight bytes, half byte 6 and a byte 00. Nothing of a NaN is lost.
