@@ -398,6 +398,19 @@ fn a_clone_of_a_transfer_goes_on_by_itself() {
     assert_eq!((transfer.finish(), clone.finish()), (Ok(4), Ok(3)));
 }
 
+/// After 5 half byte 6 in second place: with 02 it is 5 xor 2 = 7, and 2 is less than 7 xor 10 = 13. With 00 it is the odd end.
+#[test]
+fn half_byte_6_in_second_place() {
+    let mut transfer = Transfer::open([0; 16], [0; 16]).unwrap();
+    let mut doubles = [0; 4];
+    assert_eq!((transfer.feed(&[0x66, 0x05], &mut doubles), doubles[0]), (Ok(1), 5));
+    let mut odd = transfer.clone();
+    assert_eq!((transfer.feed(&[0x02], &mut doubles), doubles[0]), (Ok(1), 7));
+    assert_eq!(odd.clone().finish(), Err(Refusal::NotWhole));
+    assert_eq!(odd.feed(&[0x00], &mut doubles), Ok(0));
+    assert_eq!((transfer.finish(), odd.finish()), (Ok(2), Ok(1)));
+}
+
 /// A record as bytes, in the order of its fields.
 fn to_bytes(record: &TransferRecord) -> Vec<u8> {
     let TransferRecord { state, given, pair, held, value, last, size, h, g } = *record;
