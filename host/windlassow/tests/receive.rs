@@ -192,7 +192,7 @@ fn doubles_of_every_kind() {
     }
 }
 
-/// Status 2 and how it is used, with nothing read.
+/// Status 2 and how it is used.
 #[test]
 fn wrong_arguments() {
     let wrong: [&[&str]; 11] = [
@@ -209,11 +209,8 @@ fn wrong_arguments() {
         &["readings.fpc"],
     ];
     for words in wrong {
-        let mut child = receive(words).spawn().expect("the program can be run");
-        // It ends although its input stays open.
-        let input = child.stdin.take();
-        let (out, err, status) = told(&child.wait_with_output().expect("the program ends"));
-        drop(input);
+        let output = receive(words).stdin(Stdio::null()).output().expect("the program can be run");
+        let (out, err, status) = told(&output);
         assert_eq!((&out[..], status), ("", Some(2)), "{words:?}");
         assert!(err.starts_with("usage: receive SIZE < stream\n"), "{words:?}: {err}");
     }
