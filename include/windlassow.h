@@ -10,8 +10,9 @@
  *   be passed and any bytes may stand in a buffer: what does not fit is refused by an answer number.
  *   The record of a transfer is lent too, as a pointer to one struct, and the same holds of it: not null,
  *   aligned, no overlap, no other thread, and any bits may stand in it. A struct of zeros is a closed one,
- *   and so is one that holds what opening and pieces cannot have made. A record may be kept together with
- *   both tables and used later, also by another process on the same kind of machine.
+ *   and so is one whose numbers are out of range or do not go together. Others are taken for open ones, so
+ *   set a new struct to zeros or open it first. A record may be kept together with both tables and used
+ *   later, also by another process on the same kind of machine.
  *
  * Stack
  *   No call takes more than WINDLASSOW_STACK_BYTES of stack. The most is taken by a store of 256
