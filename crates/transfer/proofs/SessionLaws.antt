@@ -33,19 +33,6 @@ pub below-right : (n : ℕ) (xs ys : List ℕ) → AllBelow n (xs ++ ys) → All
 below-right n [] ys h = h
 below-right n (x ∷ xs) ys h = below-right n xs ys (λ j. h (suc j))
 
--- after damage nothing moves
-stays : (m : Machine) → Fit m → m .state ≡ damaged → turned m damaged ≡ m
-stays m (z, c, byte, held, value) e =
-    let h : m .held < heldBelow damaged (m .pair) = subst (λ (x : ℕ). m .held < heldBelow x (m .pair)) e held in
-    let eh : m .held ≡ 0 = omega arith in
-    let v : m .value < 256 ^ 0 = subst (λ (x : ℕ). m .value < 256 ^ x) eh value in
-    let ev : m .value ≡ 0 = omega arith in
-    rw (e, eh, ev)
-
-feed-stays : (m : Machine) (bytes : List ℕ) → turned m damaged ≡ m → m .state ≡ damaged → feed m bytes ≡ silent m
-feed-stays m [] s e = refl
-feed-stays m (b ∷ bytes) s e = ap (λ (r : Fed). gives (r .doubles) (feed (r .to) bytes)) (byte-damaged m b e) ∙ rw s (feed-stays m bytes s e)
-
 -- record, tables, stream and doubles are those of a machine that was fed the stream
 pub record Follows (m : Machine) (s : Sent) : Type 0 where
   pub transfer-is : s .transfer ≡ transfer (feed m (s .stream) .to)

@@ -1,5 +1,5 @@
 -- What an opening and pieces make is fit. Assumes nothing.
-use mathlib.Core.Path.{_≡_, refl, sym, ap, subst}
+use mathlib.Core.Path.{_≡_, refl, sym, ap, _∙_, subst}
 use mathlib.Core.Bool.{Bool, true, false, cond, not, _&&_, _||_, and-eq-true-iff}
 use mathlib.Core.List.{List, [], _∷_}
 use mathlib.Core.Option.{Option, none, some}
@@ -173,3 +173,16 @@ fit-of t f d e =
       ltb-true _ _ (a₂ .1),
       ltb-true _ _ (a₁ .1),
     )
+
+-- after damage nothing moves
+pub stays : (m : Machine) → Fit m → m .state ≡ damaged → turned m damaged ≡ m
+stays m (z, c, byte, held, value) e =
+    let h : m .held < heldBelow damaged (m .pair) = subst (λ (x : ℕ). m .held < heldBelow x (m .pair)) e held in
+    let eh : m .held ≡ 0 = omega arith in
+    let v : m .value < 256 ^ 0 = subst (λ (x : ℕ). m .value < 256 ^ x) eh value in
+    let ev : m .value ≡ 0 = omega arith in
+    rw (e, eh, ev)
+
+pub feed-stays : (m : Machine) (bytes : List ℕ) → turned m damaged ≡ m → m .state ≡ damaged → feed m bytes ≡ silent m
+feed-stays m [] s e = refl
+feed-stays m (b ∷ bytes) s e = ap (λ (r : Fed). gives (r .doubles) (feed (r .to) bytes)) (byte-damaged m b e) ∙ rw s (feed-stays m bytes s e)

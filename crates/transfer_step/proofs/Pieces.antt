@@ -1,19 +1,19 @@
 -- A piece's bytes, one after the other: the invariant of the loop over them. Assumes nothing.
 use mathlib.Core.Path.{_≡_, refl, sym, ap, _∙_, subst}
-use mathlib.Core.List.{List, [], _∷_, _++_}
+use mathlib.Core.List.{List, [], _∷_, _++_, append-nil}
 use Prim.Native.Nat.{ℕ, _+_, _*_, _≤_, _<_}
 use native.Mathlib.Numerals.{add-one}
 use native.Mathlib.Omega.{arith}
-use lib.ListN.{length, take, getD, length-append}
+use lib.ListN.{length, take, drop, getD, length-append, take-append-drop}
 use lib.Seq.{take-suc, take-length, length-sets, length-take-le}
 use Rattle.bits.proofs.WriteLaws.{sets-append}
 use Rattle.transfer_step.specs.declared.Transfer.{Transfer}
 use Rattle.transfer_step.specs.declared.Taken.{Taken}
-use Rattle.transfer_step.specs.Machine.{Machine, Fed, gives, feedByte, feed}
+use Rattle.transfer_step.specs.Machine.{Machine, Fed, damaged, silent, gives, feedByte, feed}
 use Rattle.transfer_step.specs.Record.{machine, transfer, fit}
 use Rattle.transfer_step.specs.Calls.{Standing, Gave}
-use Rattle.transfer_step.proofs.FeedLaws.{byte-went, feed-went, feed-snoc, lent-feed}
-use Rattle.transfer_step.proofs.FitLaws.{fit-byte, fit-of, fit-to}
+use Rattle.transfer_step.proofs.FeedLaws.{byte-went, feed-went, feed-append, feed-snoc, lent-feed}
+use Rattle.transfer_step.proofs.FitLaws.{fit-byte, fit-of, fit-to, stays, feed-stays}
 
 -- after one byte the record is fit again, and the tables have its size
 pub stands-byte : (t : Transfer) (f d : List ℕ) → Standing t f d → (b : ℕ) → b < 256 → (t′ : Transfer) (f′ d′ : List ℕ) → machine t′ f′ d′ ≡ feedByte (machine t f d) b .to → Standing t′ f′ d′
@@ -76,6 +76,18 @@ module _ (t₀ : Transfer) (f₀ d₀ piece out₀ : List ℕ) (t : Transfer) (f
         d-room = s .d-sized ∙ z ∙ sym (w .stands .d-sized) ∙ w .d-room;
         out-room = ap length (g .put) ∙ length-sets out at (feedByte (machine t f d) b .doubles) ∙ w .out-room;
       }
+
+  -- after damage the bytes to come change nothing
+  pub feeding-damaged : t .state ≡ damaged → Gave (feed (machine t₀ f₀ d₀) piece) out₀ 0 (record { transfer = t; next = at }) out f d
+  feeding-damaged e =
+      let m = machine t f d in
+      let r = feed (machine t₀ f₀ d₀) (take i piece) in
+      let stop : feed (r .to) (drop i piece) ≡ silent (r .to)
+      = subst (λ (x : Machine). feed x (drop i piece) ≡ silent x) (w .gave .to-is) (feed-stays m (drop i piece) (stays m (fit-of t f d (w .stands .fits)) e) e) in
+      let all : feed (machine t₀ f₀ d₀) piece ≡ r
+      = ap (feed (machine t₀ f₀ d₀)) (sym (take-append-drop i piece)) ∙ feed-append (machine t₀ f₀ d₀) (take i piece) (drop i piece)
+      ∙ ap (gives (r .doubles)) stop ∙ rw (append-nil (r .doubles)) in
+      subst (λ (x : Fed). Gave x out₀ 0 (record { transfer = t; next = at }) out f d) (sym all) (w .gave)
 
   -- the last byte was fed
   pub feeding-done : length piece ≤ i → Gave (feed (machine t₀ f₀ d₀) piece) out₀ 0 (record { transfer = t; next = at }) out f d

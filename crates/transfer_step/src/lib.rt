@@ -242,7 +242,7 @@ fn fed_byte(t: Transfer, f: &mut [u64], d: &mut [u64], b: u8, out: &mut [u64], a
     }
 }
 
-// The bytes of a piece, one after the other; the doubles from the start of the output on.
+// The bytes of a piece, one after the other, up to damage; the doubles from the start of the output on.
 pub fn fed(t: Transfer, f: &mut [u64], d: &mut [u64], piece: &[u8], out: &mut [u64]) -> Taken
     requires { ⌜ Standing t (now f) (now d) × (length (now piece) ≤ 65536) ⌝ }
     ensures { λ r. ⌜ Gave (feed (machine t (now (f .entry)) (now (d .entry))) (now (piece .entry))) (now (out .entry)) 0 r (now (out .exit)) (now (f .exit)) (now (d .exit)) ⌝ }
@@ -251,6 +251,12 @@ pub fn fed(t: Transfer, f: &mut [u64], d: &mut [u64], piece: &[u8], out: &mut [u
     let mut at = 0usize;
     let mut i = 0usize;
     while i < piece.len() {
+        if s.state == 5 {
+            return Taken {
+                transfer: s,
+                next: at,
+            };
+        }
         let r = fed_byte(s, f, d, piece[i], out, at);
         s = r.transfer;
         at = r.next;

@@ -6,8 +6,8 @@ use crate::refusal::{Refusal, close_outcome, fpc_outcome, piece_outcome};
 /// Where a transfer stands: the record that each piece updates in place. A host that keeps it together with both tables, on a
 /// disk or in memory of its own, can go on with the transfer later; [`Transfer`] has all three in one value.
 ///
-/// Any numbers may stand in it. A record that opening and pieces do not make, one of zeros among them, counts as closed. What
-/// the numbers mean is the library's own affair, but for `given`.
+/// Any numbers may stand in it. A record of zeros counts as closed, and so does one whose numbers are out of range or do not go
+/// together; others are taken for open ones. What the numbers mean is the library's own affair, but for `given`.
 #[repr(C)]
 #[derive(Clone, Copy, Debug, Default, PartialEq, Eq)]
 pub struct TransferRecord {

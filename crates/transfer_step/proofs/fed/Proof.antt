@@ -3,7 +3,7 @@ use Prim.Native.Nat.{_-_}
 use native.Mathlib.Omega.{arith}
 use lib.ListN.{length}
 use borrow.Author.Needs.{needs}
-use Rattle.transfer_step.proofs.Pieces.{Feeding, feeding-start, soon, feeding-next, feeding-done}
+use Rattle.transfer_step.proofs.Pieces.{Feeding, feeding-start, soon, feeding-next, feeding-damaged, feeding-done}
 use Rattle.transfer_step.proofs.fed.Statement.{statement}
 use Rattle.transfer_step.proofs.fed.Tie as tie
 
@@ -19,12 +19,26 @@ loop-holds c =
     let a = s .args in
     feeding-start (a .t) (a .f .now) (a .d .now) (a .piece .now) (a .out .now) (s .pre .0)
 
+same-length : tie.Need-same-length Inv-loop μ-loop
+same-length c = c .before .before .before .loop .inv .f-room
+
+same-length-2 : tie.Need-same-length-2 Inv-loop μ-loop
+same-length-2 c = c .before .before .before .loop .inv .d-room
+
+same-length-3 : tie.Need-same-length-3 Inv-loop μ-loop
+same-length-3 c = c .before .before .before .loop .inv .out-room
+
+returns : tie.Need-returns Inv-loop μ-loop
+returns c =
+    let o = c .before .before .before .loop in
+    feeding-damaged _ _ _ _ _ _ _ _ _ _ _ (o .inv) (c .if1 .taken)
+
 shared-slice-read-fed-byte : tie.Need-shared-slice-read-fed-byte Inv-loop μ-loop
 shared-slice-read-fed-byte c = search needs
 
 fed-byte-requires : tie.Need-fed-byte-requires Inv-loop μ-loop
 fed-byte-requires c κs =
-    let l = c .before .before .before .before .before in
+    let l = c .before .before .before .before .before .before .before in
     let o = l .loop in
     (o .inv .stands, omega (arith, soon _ _ _ _ _ _ _ _ _ _ _ (o .inv), o .inv .inside, l .before .before .before .before .before .pre .1))
 
@@ -38,21 +52,21 @@ loop-again : tie.Need-loop-again Inv-loop μ-loop
 loop-again c =
     let y = c .before .before .before .before .before .before .before in
     let g = y .before .before in
-    let t = g .before .before .before in
+    let t = g .before .before .before .before .before in
     let o = t .before .loop in
     feeding-next _ _ _ _ _ _ _ _ _ _ _ (o .inv) (t .loop-test .taken) (g .shared-slice-known2 .given (o .i) .fits) (y .fed-byte .result) _ _ _ (y .fed-byte .ensures)
 
-same-length : tie.Need-same-length Inv-loop μ-loop
-same-length c = c .before .loop .inv .f-room
+same-length-4 : tie.Need-same-length-4 Inv-loop μ-loop
+same-length-4 c = c .before .loop .inv .f-room
 
-same-length-2 : tie.Need-same-length-2 Inv-loop μ-loop
-same-length-2 c = c .before .loop .inv .d-room
+same-length-5 : tie.Need-same-length-5 Inv-loop μ-loop
+same-length-5 c = c .before .loop .inv .d-room
 
-same-length-3 : tie.Need-same-length-3 Inv-loop μ-loop
-same-length-3 c = c .before .loop .inv .out-room
+same-length-6 : tie.Need-same-length-6 Inv-loop μ-loop
+same-length-6 c = c .before .loop .inv .out-room
 
-returns : tie.Need-returns Inv-loop μ-loop
-returns c =
+returns-2 : tie.Need-returns-2 Inv-loop μ-loop
+returns-2 c =
     let o = c .before .loop in
     feeding-done _ _ _ _ _ _ _ _ _ _ _ (o .inv) (c .loop-test .left)
 
@@ -63,12 +77,16 @@ fed-spec =
     Inv-loop
     μ-loop
     loop-holds
+    same-length
+    same-length-2
+    same-length-3
+    returns
     shared-slice-read-fed-byte
     fed-byte-requires
     add-i
     loop-less
     loop-again
-    same-length
-    same-length-2
-    same-length-3
-    returns)
+    same-length-4
+    same-length-5
+    same-length-6
+    returns-2)
