@@ -10,8 +10,7 @@ use std::ops::{Deref, DerefMut};
 use std::time::{Duration, Instant};
 use std::{fs, ptr, slice};
 use windlassow::{
-    MIN_LOWEST, Mode, Params, Refusal, TransferRecord, bit_count, copy, fpc_read, fpc_write, read,
-    slot_count, store,
+    MIN_LOWEST, Mode, Params, Refusal, bit_count, copy, fpc_read, fpc_write, read, slot_count, store,
 };
 
 /// What a call may take. It is far more than a call takes, since the machine may be busy, and far less than a walk.
@@ -302,47 +301,6 @@ fn a_refused_fpc_read() {
     slow.end();
 }
 
-#[test]
-fn a_refused_opening() {
-    let mut slow = Slow::default();
-    let (mut f, mut d) = (Mapped::new(HUGE / 8 + 16), Mapped::new(HUGE / 8 + 16));
-    let mut record = TransferRecord::default();
-    for (f_len, d_len) in TABLES {
-        let (f, d) = (&mut f[..f_len], &mut d[..d_len]);
-        slow.refused(20, &format!("opening, tables of {f_len} and {d_len}"), || record.open(f, d));
-    }
-    slow.end();
-}
-
-/// Of a closed record, an open one and a damaged one: 66 and 00 is no double's code.
-#[test]
-fn a_refused_piece() {
-    let mut slow = Slow::default();
-    let (mut f, mut d) = (Mapped::new(HUGE / 8 + 16), Mapped::new(HUGE / 8 + 16));
-    let (stream, mut doubles) = (Mapped::new(HUGE + 3), Mapped::new(HUGE / 8));
-    let mut record = TransferRecord::default();
-    for (f_len, d_len) in TABLES.into_iter().chain([(16, 16)]) {
-        let (f, d) = (&mut f[..f_len], &mut d[..d_len]);
-        let what = format!("piece of a closed record, tables of {f_len} and {d_len}");
-        slow.refused(25, &what, || record.piece(f, d, &stream, &mut doubles));
-    }
-    record.open(&mut f[..16], &mut d[..16]).unwrap();
-    for (f_len, d_len) in TABLES {
-        let (f, d) = (&mut f[..f_len], &mut d[..d_len]);
-        let what = format!("piece, tables of {f_len} and {d_len}");
-        slow.refused(20, &what, || record.piece(f, d, &stream, &mut doubles));
-    }
-    let (f, d) = (&mut f[..16], &mut d[..16]);
-    for len in [65_537, HUGE, HUGE + 3] {
-        let what = format!("piece of {len} bytes");
-        slow.refused(21, &what, || record.piece(f, d, &stream[..len], &mut doubles));
-    }
-    for what in ["damaged piece, huge room", "piece after it, huge room"] {
-        slow.refused(23, what, || record.piece(f, d, &[0x66, 0x00], &mut doubles));
-    }
-    slow.end();
-}
-
 /// Nor does a call that is done look at room that it does not need. Both predictions of 5 are 0; of 8, fcm's is 5 and dfcm's 5 + 5.
 #[test]
 fn fpc_with_huge_room() {
@@ -355,13 +313,6 @@ fn fpc_with_huge_room() {
     });
     slow.timed("FPC read, huge room", || {
         assert_eq!(fpc_read(&mut f, &mut d, &[0x6e, 0x05, 0x02], &mut doubles), Ok(2));
-        assert_eq!(doubles[..3], [5, 8, 0]);
-    });
-    doubles[..2].fill(0);
-    slow.timed("piece, huge room", || {
-        let mut record = TransferRecord::default();
-        record.open(&mut f, &mut d).unwrap();
-        assert_eq!(record.piece(&mut f, &mut d, &[0x6e, 0x05, 0x02], &mut doubles), Ok(2));
         assert_eq!(doubles[..3], [5, 8, 0]);
     });
     slow.end();

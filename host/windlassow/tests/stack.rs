@@ -8,8 +8,8 @@ use reference::{floats, transform};
 use std::thread;
 use testing::{EXACT, FLOATS, INTEGERS, LOSSY, by_hand};
 use windlassow::{
-    Done, MAX_RUN_LEN, MAX_STREAM_LEN, MAX_WIDTH, MIN_LOWEST, Params, Refusal, STACK_BYTES, TransferRecord,
-    bit_count, copy, fpc_read, fpc_write, read, store,
+    Done, MAX_RUN_LEN, MAX_STREAM_LEN, MAX_WIDTH, MIN_LOWEST, Params, Refusal, STACK_BYTES, bit_count, copy,
+    fpc_read, fpc_write, read, store,
 };
 
 /// Does this in a thread of that stack.
@@ -118,7 +118,7 @@ fn copies() {
     }
 }
 
-/// The longest runs, of patterns that no table predicts; the stream also as one piece.
+/// The longest runs, of patterns that no table predicts.
 #[test]
 fn fpc_runs() {
     let mut random = Random::new(1);
@@ -129,12 +129,6 @@ fn fpc_runs() {
         let bytes = in_a_small_thread("FPC write", || fpc_write(&mut f, &mut d, &run, &mut stream)).unwrap();
         let doubles = in_a_small_thread("FPC read", || fpc_read(&mut f, &mut d, &stream[..bytes], &mut back));
         assert_eq!((doubles, &back), (Ok(MAX_RUN_LEN), &run));
-        let (mut record, mut room) = (TransferRecord::default(), vec![0; 2 * bytes]);
-        in_a_small_thread("opening", || record.open(&mut f, &mut d)).unwrap();
-        let piece = &stream[..bytes];
-        let given = in_a_small_thread("piece", || record.piece(&mut f, &mut d, piece, &mut room));
-        assert_eq!((given, &room[..MAX_RUN_LEN]), (Ok(MAX_RUN_LEN), &run[..]));
-        assert_eq!(in_a_small_thread("close", || record.close()), Ok(MAX_RUN_LEN));
     }
 }
 
