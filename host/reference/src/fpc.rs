@@ -8,7 +8,7 @@ pub const MOST_DOUBLES: usize = 4_096;
 pub const MOST_BYTES: usize = 65_536;
 
 /// "An odd run ends with half byte 6 and a byte 00".
-const ODD_END: u8 = 6;
+pub(crate) const ODD_END: u8 = 6;
 
 /// The two predictors: tables, hashes and the last value.
 #[derive(Clone, Debug)]
@@ -63,11 +63,17 @@ impl Predictors {
 
     /// The double that a half byte and its remaining bytes stand for. Whether the writer would write it so is
     /// another question.
-    fn double(&self, half: u8, bytes: &[u8]) -> u64 {
+    pub(crate) fn double(&self, half: u8, bytes: &[u8]) -> u64 {
         let mut xor = [0; 8];
         xor[..bytes.len()].copy_from_slice(bytes);
         let prediction = if half < 8 { self.fcm() } else { self.dfcm() };
         prediction ^ u64::from_le_bytes(xor)
+    }
+
+    /// Leaves both tables in those that are lent, which have the same length.
+    pub fn copy_tables(&self, f: &mut [u64], d: &mut [u64]) {
+        f.copy_from_slice(&self.f);
+        d.copy_from_slice(&self.d);
     }
 }
 
@@ -81,7 +87,7 @@ fn code_of_zero_bytes(zero_bytes: u32) -> u8 {
 }
 
 /// The bytes of the xor that are written for a code.
-fn remaining_bytes(code: u8) -> usize {
+pub(crate) fn remaining_bytes(code: u8) -> usize {
     8 - [0, 1, 2, 3, 5, 6, 7, 8][code as usize]
 }
 
@@ -174,7 +180,7 @@ pub fn fpc_read(f: &mut [u64], d: &mut [u64], stream: &[u8], doubles: &mut [u64]
 }
 
 /// Row 20: "FPC tables unequal in length, or not a power of two from 16 to 1,024".
-fn good_tables(f: &[u64], d: &[u64]) -> bool {
+pub(crate) fn good_tables(f: &[u64], d: &[u64]) -> bool {
     let size = f.len();
     size == d.len() && size.is_power_of_two() && (16..=1024).contains(&size)
 }
@@ -193,8 +199,7 @@ fn finish<T: Copy>(
         return FpcReply::needs(22, result.len());
     }
     out[..result.len()].copy_from_slice(result);
-    f.copy_from_slice(&predictors.f);
-    d.copy_from_slice(&predictors.d);
+    predictors.copy_tables(f, d);
     FpcReply::done(result.len())
 }
 

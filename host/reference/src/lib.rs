@@ -4,10 +4,12 @@
 //! something. It is written for clarity: bits are lists of `bool`, a slot is decoded and coded again to see
 //! whether it is a code, a stream likewise. Every module quotes the sentences that it follows: of document 01, and
 //! of the requests M-100, where it speaks of dimensions 3 and 4, M-101, where it speaks of planes written whole, M-103,
-//! where it speaks of the lowest exponent, and M-105, where it speaks of full slots and of the copier.
+//! where it speaks of the lowest exponent, M-105, where it speaks of full slots and of the copier, and M-106, where it speaks
+//! of streams that come in pieces.
 //!
-//! The calls are [`store`], [`read`], [`slot_count`], [`bit_count`], [`copy()`], [`fpc_write`], [`fpc_read`] and, for
-//! the listing program, [`listing()`]. The modules hold the pieces.
+//! The calls are [`store`], [`read`], [`slot_count`], [`bit_count`], [`copy()`], [`fpc_write`], [`fpc_read`],
+//! [`transfer_open`], [`transfer_piece`], [`transfer_close`] and, for the listing program, [`listing()`]. The modules hold the
+//! pieces.
 #![forbid(unsafe_code)]
 
 pub mod bits;
@@ -20,6 +22,7 @@ pub mod params;
 pub mod planes;
 pub mod reply;
 pub mod slots;
+pub mod transfer;
 pub mod transform;
 pub mod words;
 
@@ -29,3 +32,4 @@ pub use listing::listing;
 pub use params::Params;
 pub use reply::{FpcReply, Reply};
 pub use slots::{bit_count, read, slot_count, store};
+pub use transfer::{Transfer, transfer_close, transfer_open, transfer_piece};
