@@ -1,15 +1,9 @@
 //! Both calls on the same input, and what must hold of their outcome.
 
 use crate::common::*;
+use crate::make::lent_table;
 use reference::FpcReply;
 use reference::fpc::stream_of;
-
-pub const SIZES: [usize; 7] = [16, 32, 64, 128, 256, 512, 1024];
-
-/// What tables hold when they are lent does not matter.
-pub fn lent_table(random: &mut Random, len: usize) -> Vec<u64> {
-    if random.once_in(2) { vec![0; len] } else { (0..len).map(|_| random.bits()).collect() }
-}
 
 /// Writes with both and compares reply, output and tables. Gives the reply.
 pub fn compare_write(random: &mut Random, sizes: (usize, usize), run: &[u64], room: usize) -> FpcReply {
