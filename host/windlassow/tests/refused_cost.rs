@@ -1,107 +1,15 @@
 //! A refused call does no work that grows with its buffers: every exported call is refused with buffers of 2^34 bytes, and has to answer
 //! at once. A walk through one of them takes seconds.
-//!
-//! The buffers are mapped and never written, so they take no memory: where a call reads them, the kernel shows its page of zeros.
-#![allow(unsafe_code)]
 
-use std::ffi::c_void;
-use std::fmt::Debug;
-use std::ops::{Deref, DerefMut};
-use std::time::{Duration, Instant};
-use std::{fs, ptr, slice};
+#[allow(unsafe_code)]
+#[path = "common/huge.rs"]
+mod huge;
+
+use huge::{HUGE, Mapped, Slow};
 use windlassow::{
-    MIN_LOWEST, Mode, Params, Refusal, bit_count, copy, fpc_read, fpc_write, read, slot_count, store,
+    MIN_LOWEST, Mode, Params, Refusal, TransferRecord, bit_count, copy, fpc_read, fpc_write, read,
+    slot_count, store,
 };
-
-/// What a call may take. It is far more than a call takes, since the machine may be busy, and far less than a walk.
-const LIMIT: Duration = Duration::from_millis(50);
-
-/// The bytes of a huge buffer, and some more: its length cut to 32 bits would be a good one.
-const HUGE: usize = 1 << 34;
-
-unsafe extern "C" {
-    fn mmap(at: *mut c_void, len: usize, protection: i32, flags: i32, file: i32, offset: i64) -> *mut c_void;
-    fn munmap(at: *mut c_void, len: usize) -> i32;
-}
-
-/// Elements that are all zero, on pages that are there once they are written.
-struct Mapped<T> {
-    start: *mut T,
-    len: usize,
-}
-
-impl<T: Copy> Mapped<T> {
-    /// Integers only: zero bytes have to be a value.
-    fn new(len: usize) -> Mapped<T> {
-        // PROT_READ | PROT_WRITE; MAP_PRIVATE | MAP_ANONYMOUS | MAP_NORESERVE
-        let (protection, flags) = (1 | 2, 0x02 | 0x20 | 0x4000);
-        // SAFETY: a new mapping at a place that the kernel picks.
-        let start = unsafe { mmap(ptr::null_mut(), len * size_of::<T>(), protection, flags, -1, 0) };
-        assert!(start as isize != -1, "no mapping of {len} elements: {}", std::io::Error::last_os_error());
-        Mapped { start: start.cast(), len }
-    }
-}
-
-impl<T> Drop for Mapped<T> {
-    fn drop(&mut self) {
-        // SAFETY: the mapping that `new` made; nothing borrows from it any more.
-        unsafe { munmap(self.start.cast(), self.len * size_of::<T>()) };
-    }
-}
-
-impl<T> Deref for Mapped<T> {
-    type Target = [T];
-
-    fn deref(&self) -> &[T] {
-        // SAFETY: mapped and zero, and aligned to a page.
-        unsafe { slice::from_raw_parts(self.start, self.len) }
-    }
-}
-
-impl<T> DerefMut for Mapped<T> {
-    fn deref_mut(&mut self) -> &mut [T] {
-        // SAFETY: as above, and borrowed once.
-        unsafe { slice::from_raw_parts_mut(self.start, self.len) }
-    }
-}
-
-/// The calls that took too long.
-#[derive(Default)]
-struct Slow(Vec<String>);
-
-impl Slow {
-    /// A call that has to be refused with this number. If it is late it is tried again, for the machine may be busy; a walk is not.
-    fn refused<T: Debug>(&mut self, number: u32, what: &str, mut call: impl FnMut() -> Result<T, Refusal>) {
-        self.timed(what, || {
-            let refusal = call().expect_err(what);
-            assert_eq!(refusal.number(), number, "{what}");
-        });
-    }
-
-    fn timed(&mut self, what: &str, mut call: impl FnMut()) {
-        let mut least = Duration::MAX;
-        for _ in 0..3 {
-            let began = Instant::now();
-            call();
-            least = least.min(began.elapsed());
-            if least < LIMIT || least > 10 * LIMIT {
-                break;
-            }
-        }
-        if least >= LIMIT {
-            self.0.push(format!("{what}: {least:?}"));
-        }
-    }
-
-    /// Fails if a call was slow, or if pages were written: this process has little memory of its own.
-    fn end(self) {
-        assert!(self.0.is_empty(), "calls that take longer than {LIMIT:?}:\n{}", self.0.join("\n"));
-        let status = fs::read_to_string("/proc/self/status").unwrap();
-        let resident = status.lines().find_map(|line| line.strip_prefix("VmRSS:")).unwrap();
-        let kilobytes: usize = resident.trim().trim_end_matches(" kB").parse().unwrap();
-        assert!(kilobytes < 200_000, "the process has {kilobytes} kB of memory");
-    }
-}
 
 /// The bytes of a small archive: it has a slot of the widest, and no more than 264 of any.
 const SMALL: usize = 1_058;
@@ -314,6 +222,110 @@ fn fpc_with_huge_room() {
     slow.timed("FPC read, huge room", || {
         assert_eq!(fpc_read(&mut f, &mut d, &[0x6e, 0x05, 0x02], &mut doubles), Ok(2));
         assert_eq!(doubles[..3], [5, 8, 0]);
+    });
+    slow.end();
+}
+
+/// A transfer with tables of 16.
+fn opened() -> TransferRecord {
+    let mut record = TransferRecord::default();
+    record.open(&mut [1; 16], &mut [2; 16]).expect("the tables are good");
+    record
+}
+
+/// A transfer that is damaged: both predictions of the first double are 0.
+fn damaged() -> TransferRecord {
+    let mut record = opened();
+    record
+        .piece(&mut [0; 16], &mut [0; 16], &[0xff], &mut [0; 2])
+        .expect_err("no double takes the dfcm side");
+    record
+}
+
+#[test]
+fn a_refused_opening() {
+    let mut slow = Slow::default();
+    let (mut f, mut d) = (Mapped::new(HUGE / 8 + 16), Mapped::new(HUGE / 8 + 16));
+    for (f_len, d_len) in TABLES {
+        let (f, d) = (&mut f[..f_len], &mut d[..d_len]);
+        for record in [TransferRecord::default(), opened(), damaged()] {
+            let what = format!("opening, tables of {f_len} and {d_len}, {record:?}");
+            slow.refused(20, &what, || {
+                let mut record = record;
+                record.open(f, d)
+            });
+        }
+    }
+    slow.end();
+}
+
+/// A closed record with everything huge, the numbers in it too.
+#[test]
+fn a_piece_of_a_closed_transfer() {
+    let mut slow = Slow::default();
+    let (mut f, mut d) = (Mapped::new(HUGE / 8 + 16), Mapped::new(HUGE / 8 + 16));
+    let (piece, mut doubles) = (Mapped::new(HUGE + 3), Mapped::new(HUGE / 8));
+    let huge_size = TransferRecord { size: HUGE / 8, ..opened() };
+    let huge_numbers = TransferRecord { size: usize::MAX, h: usize::MAX, g: usize::MAX, ..opened() };
+    let huge_held = TransferRecord { state: 2, held: u32::MAX, value: u64::MAX, ..opened() };
+    for mut record in [TransferRecord::default(), huge_size, huge_numbers, huge_held] {
+        let what = format!("closed record {record:?}");
+        slow.refused(25, &what, || record.piece(&mut f, &mut d, &piece, &mut doubles));
+        slow.refused(25, &what, || record.piece(&mut f[..16], &mut d[..16], &piece, &mut doubles));
+        slow.refused(25, &what, || record.piece(&mut f[..16], &mut d[..16], &piece[..9], &mut doubles));
+        slow.refused(25, &what, || record.close());
+    }
+    slow.end();
+}
+
+/// The rows 20, 21, 23 of earlier damage and 22, with everything huge that the rows before them let pass.
+#[test]
+fn a_refused_piece() {
+    let mut slow = Slow::default();
+    let (mut f, mut d) = (Mapped::new(HUGE / 8 + 16), Mapped::new(HUGE / 8 + 16));
+    let (piece, mut doubles) = (Mapped::new(HUGE + 3), Mapped::new(HUGE / 8));
+    for mut record in [opened(), damaged()] {
+        for (f_len, d_len) in TABLES {
+            let (f, d) = (&mut f[..f_len], &mut d[..d_len]);
+            let what = format!("piece, tables of {f_len} and {d_len}");
+            slow.refused(20, &what, || record.piece(f, d, &piece[..3], &mut doubles[..6]));
+            slow.refused(20, &what, || record.piece(f, d, &piece, &mut doubles));
+        }
+        let (f, d) = (&mut f[..16], &mut d[..16]);
+        for len in [65_537, HUGE, HUGE + 3] {
+            let what = format!("piece of {len} bytes");
+            slow.refused(21, &what, || record.piece(f, d, &piece[..len], &mut doubles));
+            slow.refused(21, &what, || record.piece(f, d, &piece[..len], &mut []));
+        }
+    }
+    let (f, d) = (&mut f[..16], &mut d[..16]);
+    let mut record = damaged();
+    slow.refused(23, "piece after damage", || record.piece(f, d, &piece[..65_536], &mut doubles));
+    slow.refused(23, "piece after damage, no room", || record.piece(f, d, &piece[..65_536], &mut []));
+    let mut record = opened();
+    slow.refused(22, "piece, short room", || record.piece(f, d, &piece[..65_536], &mut doubles[..131_071]));
+    slow.end();
+}
+
+/// A piece that is taken in, good or damaged, looks at no room that it does not need.
+#[test]
+fn a_piece_with_huge_room() {
+    let mut slow = Slow::default();
+    let mut doubles = Mapped::new(HUGE / 8);
+    slow.timed("piece, huge room", || {
+        let (mut record, mut f, mut d) = (opened(), [0; 16], [0; 16]);
+        assert_eq!(record.piece(&mut f, &mut d, &[0x6e, 0x05, 0x02], &mut doubles), Ok(2));
+        assert_eq!((doubles[..3].to_vec(), record.close()), (vec![5, 8, 0], Ok(2)));
+    });
+    slow.timed("damaged piece, huge room", || {
+        let (mut record, mut f, mut d) = (opened(), [0; 16], [0; 16]);
+        let damaged = Err(Refusal::Damaged { doubles: 1 });
+        assert_eq!(record.piece(&mut f, &mut d, &[0x6e, 0x05, 0x00], &mut doubles), damaged);
+    });
+    slow.timed("the longest piece, huge room", || {
+        let (mut record, mut f, mut d) = (opened(), [0; 16], [0; 16]);
+        let damaged = Err(Refusal::Damaged { doubles: 4_096 });
+        assert_eq!(record.piece(&mut f, &mut d, &[0x77; 65_536], &mut doubles), damaged);
     });
     slow.end();
 }

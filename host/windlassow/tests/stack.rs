@@ -8,8 +8,8 @@ use reference::{floats, transform};
 use std::thread;
 use testing::{EXACT, FLOATS, INTEGERS, LOSSY, by_hand};
 use windlassow::{
-    Done, MAX_RUN_LEN, MAX_STREAM_LEN, MAX_WIDTH, MIN_LOWEST, Params, Refusal, STACK_BYTES, bit_count, copy,
-    fpc_read, fpc_write, read, store,
+    Done, MAX_RUN_LEN, MAX_STREAM_LEN, MAX_WIDTH, MIN_LOWEST, Params, Refusal, STACK_BYTES, Transfer,
+    bit_count, copy, fpc_read, fpc_write, read, store,
 };
 
 /// Does this in a thread of that stack.
@@ -129,6 +129,32 @@ fn fpc_runs() {
         let bytes = in_a_small_thread("FPC write", || fpc_write(&mut f, &mut d, &run, &mut stream)).unwrap();
         let doubles = in_a_small_thread("FPC read", || fpc_read(&mut f, &mut d, &stream[..bytes], &mut back));
         assert_eq!((doubles, &back), (Ok(MAX_RUN_LEN), &run));
+    }
+}
+
+/// The same runs in one piece and in two, with bytes after them that are damage.
+#[test]
+fn transfers() {
+    let mut random = Random::new(2);
+    let run: Vec<u64> = (0..MAX_RUN_LEN).map(|_| random.bits()).collect();
+    let zeros = vec![0; MAX_RUN_LEN];
+    for (run, size) in [(&run, 16), (&run, 1024), (&zeros, 16), (&zeros, 1024)] {
+        let mut stream = vec![0; MAX_STREAM_LEN];
+        let bytes = fpc_write(&mut vec![0; size], &mut vec![0; size], run, &mut stream).unwrap();
+        let mut doubles = vec![0; 2 * MAX_STREAM_LEN];
+        for cut in [0, bytes / 2, bytes] {
+            let open = || Transfer::open(vec![1; size], vec![2; size]);
+            let mut transfer = in_a_small_thread("opening", open).unwrap();
+            let mut feed = |piece: &[u8], doubles: &mut [u64]| {
+                in_a_small_thread("piece", || transfer.feed(piece, doubles))
+            };
+            let given = feed(&stream[..cut], &mut doubles).unwrap();
+            let rest = feed(&stream[cut..bytes], &mut doubles[given..]).unwrap();
+            assert_eq!((given + rest, &doubles[..given + rest]), (run.len(), &run[..]));
+            assert_eq!(in_a_small_thread("close", || transfer.clone().finish()), Ok(run.len()));
+            let after = in_a_small_thread("damage", || transfer.feed(&stream, &mut doubles));
+            assert_eq!(after, Err(Refusal::Damaged { doubles: 0 }));
+        }
     }
 }
 

@@ -270,20 +270,19 @@ fn records_written_by_hand() {
     let first = TransferRecord { state: IN_FIRST, pair: 0x07, held: 7, value: 0xF0 << 48, ..open };
     let second = TransferRecord { state: IN_SECOND, given: 1, pair: 0x6e, last: 5, ..open };
     let end = TransferRecord { state: AFTER_END, given: 1, pair: 0x66, last: 5, ..open };
-    let cases: [(TransferRecord, u64, u8, u32, &[u64], FpcReply); 4] = [
-        (open, 0, 0x77, 0, &[0, 0], FpcReply::done(2)),
-        (first, 0, 0x3f, 0, &[one, one], FpcReply::done(2)),
-        (second, 5, 0x02, 0, &[8], FpcReply::done(2)),
-        (end, 5, 0x00, 23, &[], FpcReply::refused(23)),
-    ];
-    for (mut record, entry, byte, answer, given, close) in cases {
+    let goes_on = |mut record: TransferRecord, byte: u8, answer: u32, given: &[u64], close: FpcReply| {
+        // As after the last double, if there was one.
         let (mut f, mut d, mut doubles) = ([0; 16], [0; 16], [99; 2]);
-        (f[0], d[0]) = (entry, entry);
+        (f[0], d[0]) = (record.last, record.last);
         let reply = reply_of(record.piece(&mut f, &mut d, &[byte], &mut doubles));
         assert_eq!(reply, FpcReply { answer, count: given.len() as u32 }, "{record:?}");
         assert_eq!(doubles[..given.len()], *given);
         assert_eq!(reply_of(record.close()), close);
-    }
+    };
+    goes_on(open, 0x77, 0, &[0, 0], FpcReply::done(2));
+    goes_on(first, 0x3f, 0, &[one, one], FpcReply::done(2));
+    goes_on(second, 0x02, 0, &[8], FpcReply::done(2));
+    goes_on(end, 0x00, 23, &[], FpcReply::refused(23));
 }
 
 /// A record and its tables, copied elsewhere in the middle, go on in the same way.
