@@ -5,21 +5,24 @@ use crate::compare::*;
 use crate::cuts::*;
 use crate::fit::bytes_of_half;
 use crate::make::*;
+use reference::FpcReply;
 use reference::fpc::{Predictors, stream_of};
 
 /// Sends the bytes in one piece, byte by byte and in any pieces. All give the same doubles and leave the same tables. Counts the
 /// answers of the closes.
 fn in_three_ways(random: &mut Random, size: usize, bytes: &[u8], answers: &mut Answers) {
-    let whole = send(random, size, &[bytes], false);
+    let (whole, close) = send(random, size, &[bytes], false);
     let count = random.below(6);
     let pieces = any_cut(random, bytes, count);
     let is_disturbed = random.once_in(8);
     for pieces in [bytes.chunks(1).collect(), pieces] {
-        let session = send(random, size, &pieces, is_disturbed);
+        let (session, other_close) = send(random, size, &pieces, is_disturbed);
         assert!(session.doubles == whole.doubles, "tables of {size}, {}", shown(bytes));
         assert!(session.tables() == whole.tables(), "tables of {size}, {}", shown(bytes));
+        assert_eq!(other_close, close, "tables of {size}, {}", shown(bytes));
+        assert_eq!(session.is_damaged(), whole.is_damaged(), "tables of {size}, {}", shown(bytes));
     }
-    answers.count(if whole.is_damaged() { 23 } else { 0 });
+    answers.count(close.answer);
 }
 
 #[test]
@@ -38,6 +41,36 @@ fn streams_damaged_at_every_byte() {
                 in_three_ways(&mut random, size, &damaged, &mut answers);
             }
         }
+    }
+    answers.must_include(&[0, 23]);
+}
+
+/// Short streams with a byte changed or more bytes after them, in all their cuts.
+#[test]
+fn every_cut_of_short_streams() {
+    let mut random = Random::new(220);
+    let mut answers = Answers::none();
+    for _ in 0..rounds(200) {
+        let size = random.pick(&[16, 16, 64, 1024]);
+        let run = short_run(&mut random, size);
+        let (mut stream, _) = stream_of(size, &run);
+        stream.extend([random.pick(&[0x00, 0x66, 0x77, 0x7F, 0xFF]), 0x77]);
+        let (at, bit) = (random.below(stream.len()), random.below(8));
+        stream[at] ^= random.pick(&[0, 0x08, 0x80, 1 << bit]);
+        stream.truncate(9);
+        let (whole, close) = send(&mut random, size, &[&stream], false);
+        for places in 0..1 << (stream.len() - 1) {
+            let (session, other_close) = send(&mut random, size, &cut_at(&stream, places), false);
+            assert_eq!(session.doubles, whole.doubles, "{} cut at {places:b}", shown(&stream));
+            assert!(session.tables() == whole.tables(), "{} cut at {places:b}", shown(&stream));
+            assert_eq!(
+                (session.is_damaged(), other_close),
+                (whole.is_damaged(), close),
+                "{}",
+                shown(&stream)
+            );
+        }
+        answers.count(if whole.is_damaged() { 23 } else { 0 });
     }
     answers.must_include(&[0, 23]);
 }
@@ -69,10 +102,11 @@ fn all_short_streams() {
     let mut random = Random::new(223);
     let mut answers = Answers::none();
     let mut both = |stream: &[u8]| {
-        let whole = send(&mut random, 16, &[stream], false);
-        let bytes = send(&mut random, 16, &stream.chunks(1).collect::<Vec<_>>(), false);
+        let (whole, close) = send(&mut random, 16, &[stream], false);
+        let (bytes, other_close) = send(&mut random, 16, &stream.chunks(1).collect::<Vec<_>>(), false);
         assert_eq!((&whole.doubles, whole.tables()), (&bytes.doubles, bytes.tables()), "{stream:x?}");
-        answers.count(if bytes.is_damaged() { 23 } else { 0 });
+        assert_eq!((whole.is_damaged(), close), (bytes.is_damaged(), other_close), "{stream:x?}");
+        answers.count(close.answer);
     };
     for first in 0..=255 {
         both(&[first]);
@@ -170,26 +204,23 @@ fn bytes_after_4096_doubles() {
             assert!((given.answer, &session.doubles) == (23, &run), "{after:x}");
             assert_eq!(session.close().answer, 23);
         }
-        // Without the last byte it is a stream, and an empty piece is no damage.
-        let session = send(&mut random, size, &[&stream[..end], &[]], false);
-        session.answers.must_include(&[0]);
-        assert!(!session.is_damaged());
+        // Without these bytes it is a stream, and an empty piece is no damage.
+        let (session, close) = send(&mut random, size, &[&stream[..end], &[]], false);
+        assert_eq!((session.is_damaged(), close), (false, FpcReply::done(4_096)), "{after:x}");
     }
     let maker = random.below(MAKERS);
     let longer = run(&mut random, maker, 64, 4_100);
-    let mut answers = Answers::none();
-    in_three_pieces(&mut random, 64, &stream_of(64, &longer).0, &longer[..4_096], &mut answers);
-    in_three_pieces(&mut random, 16, &[0x77; 65_536], &[0; 4_096], &mut answers);
-    answers.must_include(&[23]);
+    gives_before_damage(&mut random, 64, &stream_of(64, &longer).0, &longer[..4_096]);
+    gives_before_damage(&mut random, 16, &[0x77; 65_536], &[0; 4_096]);
 }
 
-/// A long stream with damage, in one piece and cut in three.
-fn in_three_pieces(random: &mut Random, size: usize, stream: &[u8], run: &[u64], answers: &mut Answers) {
+/// A stream with damage after this run, in one piece and cut in three.
+fn gives_before_damage(random: &mut Random, size: usize, stream: &[u8], run: &[u64]) {
     for count in [0, 2] {
         let pieces = any_cut(random, stream, count);
-        let session = send(random, size, &pieces, false);
+        let (session, close) = send(random, size, &pieces, false);
+        assert_eq!((session.is_damaged(), close), (true, FpcReply::refused(23)), "{}", shown(stream));
         assert!(session.doubles == run, "{}", shown(stream));
-        answers.count(if session.is_damaged() { 23 } else { 0 });
     }
 }
 
@@ -209,7 +240,7 @@ fn half_bytes_with_their_bytes_one_at_a_time() {
                 let byte = if random.once_in(3) { 0 } else { random.byte() };
                 let given = session.piece(&[byte], 2);
                 let is_last = k == bytes;
-                assert!(is_last || given == reference::FpcReply::done(0), "half byte {half}, byte {k}");
+                assert!(is_last || given == FpcReply::done(0), "half byte {half}, byte {k}");
                 answers.count(given.answer);
             }
             session.close();

@@ -2,10 +2,12 @@
 
 use crate::common::*;
 use crate::compare::*;
+use crate::fit::is_fit;
 use crate::make::*;
+use crate::records::noise;
 use reference::FpcReply;
 use reference::fpc::stream_of;
-use windlassow::TransferRecord;
+use windlassow::{Refusal, TransferRecord};
 
 /// Bytes that leave a transfer at a pair's byte, in its first double, in its second, after the odd end, damaged, and with 4,096
 /// doubles.
@@ -66,6 +68,24 @@ fn a_transfer_of_any_run_starts_anew() {
         let (stream, _) = stream_of(size, &run);
         let end = random.below(stream.len() + 1);
         assert_eq!(session.piece(&stream[..end], 2 * end).answer, 0);
+    }
+}
+
+/// A record of any numbers opens like one of zeros, and a failed opening makes it one of zeros.
+#[test]
+fn records_of_any_numbers() {
+    let mut random = Random::new(245);
+    for _ in 0..rounds(1000) {
+        let size = random.pick(&SIZES);
+        let (mut any, mut zeros) = (noise(&mut random), TransferRecord::default());
+        let (mut f, mut d) = (lent_table(&mut random, size), lent_table(&mut random, size));
+        assert_eq!(any.open(&mut f, &mut d[..size / 2]), Err(Refusal::InvalidTables));
+        assert_eq!(any, zeros);
+        any = noise(&mut random);
+        assert_eq!(any.open(&mut f, &mut d), Ok(()));
+        assert!(is_fit(&any) && f.iter().chain(&d).all(|&entry| entry == 0), "{any:?}");
+        zeros.open(&mut f, &mut d).unwrap();
+        assert_eq!(any, zeros);
     }
 }
 

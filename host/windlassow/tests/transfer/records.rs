@@ -33,6 +33,11 @@ fn try_record(random: &mut Random, record: TransferRecord, size: usize) -> u32 {
         assert!(lent.is_unchanged() && f.is_unchanged() && d.is_unchanged(), "{record:?}");
         assert!(doubles.is_unchanged() && given.count == 0, "{record:?}");
     }
+    if !is_fit(&record) {
+        // 25 comes first, whatever else is wrong.
+        let given = reply_of(lent[0].piece(&mut f, &mut d[..8], &[0; 3], &mut doubles[..0]));
+        assert!(given == FpcReply::refused(25) && lent.is_unchanged() && f.is_unchanged(), "{record:?}");
+    }
     try_close(record);
     given.answer
 }
@@ -79,7 +84,7 @@ fn zeros_ones_and_noise() {
 }
 
 /// 56 bytes of any content.
-fn noise(random: &mut Random) -> TransferRecord {
+pub fn noise(random: &mut Random) -> TransferRecord {
     TransferRecord {
         state: random.word(),
         given: random.word(),
