@@ -1,9 +1,8 @@
 //! Transfers worked out by hand, on the library alone.
 
+use crate::compare::reply_of;
 use reference::FpcReply;
 use windlassow::{Transfer, TransferRecord};
-
-use crate::compare::reply_of;
 
 const ONE: u64 = 0x3FF0_0000_0000_0000;
 

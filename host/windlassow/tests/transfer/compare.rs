@@ -10,7 +10,7 @@ use windlassow::{Refusal, TransferRecord, fpc_read};
 /// What stands in room before a call.
 const FILLING: u64 = 0x5EED_5EED_5EED_5EED;
 
-/// The outcome of an opening or of a close in the shape of the reference's.
+/// The outcome of a call on a transfer in the shape of the reference's.
 pub fn reply_of(outcome: Result<usize, Refusal>) -> FpcReply {
     match outcome {
         Ok(count) => FpcReply::done(count),

@@ -2,11 +2,15 @@
 
 use windlassow::TransferRecord;
 
-/// At a pair's byte, in its first double, in its second, after the odd end, damaged.
+/// The next byte is that of a pair.
 pub const AT_PAIR: u32 = 1;
+/// Bytes of a pair's first double are missing.
 pub const IN_FIRST: u32 = 2;
+/// Bytes of its second double are missing.
 pub const IN_SECOND: u32 = 3;
+/// The odd end has come.
 pub const AFTER_END: u32 = 4;
+/// Damage has come.
 pub const DAMAGED: u32 = 5;
 
 /// The bytes that follow for a half byte.

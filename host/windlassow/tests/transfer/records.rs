@@ -133,6 +133,10 @@ fn small_numbers() {
     assert!(fit_of_state[0] == 0 && fit_of_state[6..] == [0, 0], "{fit_of_state:?}");
 }
 
+/// Lengths that no tables have.
+const BAD_SIZES: [usize; 16] =
+    [0, 1, 2, 4, 8, 15, 17, 24, 48, 1_023, 1_025, 2_048, 4_096, 1 << 32, 1 << 32 | 16, usize::MAX];
+
 /// The records that one field makes of an open one: every value at a limit of that field.
 fn changed(record: &TransferRecord) -> Vec<TransferRecord> {
     let mut all = Vec::new();
@@ -161,15 +165,11 @@ fn changed(record: &TransferRecord) -> Vec<TransferRecord> {
     }
     with(&|changed| changed.value = u64::MAX);
     let size = record.size;
-    let indices = [0, 1, size - 1, size, size + 1, 2 * size, 1 << 32, 1 << 63, usize::MAX];
-    for index in indices {
+    for index in [0, 1, size - 1, size, size + 1, 2 * size, 1 << 32, 1 << 63, usize::MAX] {
         with(&|changed| changed.h = index);
         with(&|changed| changed.g = index);
     }
-    for size in [0, 1, 2, 4, 8, 15, 17, 24, 48, 1_023, 1_025, 2_048, 4_096, 1 << 32, 1 << 32 | 16, usize::MAX]
-        .into_iter()
-        .chain(SIZES)
-    {
+    for size in SIZES.into_iter().chain(BAD_SIZES) {
         with(&|changed| changed.size = size);
     }
     all

@@ -103,9 +103,11 @@ fn tables_of_every_length() {
             let lens = random.pick(&[(other, other), (size, other), (other, size)]);
             assert_eq!(session.piece_with(&mut random, lens, &[0x00], 2), FpcReply::refused(20), "{lens:?}");
         }
-        for lens in SIZES.into_iter().filter(|&other| other != size).map(|other| (other, other)) {
-            let empty = session.piece_with(&mut random, lens, &[], 0);
-            assert_eq!(empty, FpcReply::refused(20), "{lens:?} for {size}");
+        // An empty piece too.
+        for other in SIZES.into_iter().filter(|&other| other != size) {
+            for lens in [(other, other), (size, other), (other, size)] {
+                assert_eq!(session.piece_with(&mut random, lens, &[], 0), FpcReply::refused(20), "{lens:?}");
+            }
         }
         assert_eq!([session.piece(&[0x00], 2), session.close()], [FpcReply::done(0), FpcReply::done(1)]);
     }
