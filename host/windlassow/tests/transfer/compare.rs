@@ -10,6 +10,10 @@ use windlassow::{Refusal, TransferRecord, fpc_read};
 /// What stands in room before a call.
 const FILLING: u64 = 0x5EED_5EED_5EED_5EED;
 
+/// What stands beside a record.
+pub const GUARD: TransferRecord =
+    TransferRecord { state: 1, given: 2, pair: 3, held: 4, value: 5, last: 6, size: 7, h: 8, g: 9 };
+
 /// The outcome of a call on a transfer in the shape of the reference's.
 pub fn reply_of(outcome: Result<usize, Refusal>) -> FpcReply {
     match outcome {
@@ -61,9 +65,8 @@ pub struct Session {
 impl Session {
     /// A closed record, and tables of any content.
     pub fn closed(random: &mut Random) -> Session {
-        let guard = TransferRecord { state: 1, given: 2, size: 16, last: u64::MAX, ..Default::default() };
         Session {
-            record: Guarded::new(&[TransferRecord::default()], guard),
+            record: Guarded::new(&[TransferRecord::default()], GUARD),
             expected: reference::Transfer::default(),
             tables: Tables::new(random, (16, 16)),
             is_damaged: false,

@@ -17,7 +17,7 @@ fn try_record(random: &mut Random, record: TransferRecord, size: usize) -> u32 {
     let len = random.below(20);
     let bytes = if random.once_in(3) { vec![0x77; len] } else { random.bytes(len) };
     let mut doubles = Guarded::new(&vec![99; 2 * len], 3);
-    let mut lent = Guarded::new(&[record], TransferRecord::default());
+    let mut lent = Guarded::new(&[record], GUARD);
     let given = reply_of(lent[0].piece(&mut f, &mut d, &bytes, &mut doubles));
     assert!(f.is_intact() && d.is_intact() && doubles.is_intact() && lent.is_intact(), "{record:?}");
     if is_fit(&record) && record.size == size {
@@ -44,7 +44,7 @@ fn try_record(random: &mut Random, record: TransferRecord, size: usize) -> u32 {
 
 /// A close of a record as it is: done where a whole stream can have ended.
 fn try_close(record: TransferRecord) {
-    let mut lent = Guarded::new(&[record], TransferRecord::default());
+    let mut lent = Guarded::new(&[record], GUARD);
     let given = reply_of(lent[0].close());
     assert!(lent.is_intact(), "{record:?}");
     if !is_fit(&record) {
