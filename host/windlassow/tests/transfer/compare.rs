@@ -49,7 +49,7 @@ impl Tables {
 }
 
 /// A record with its tables, lent to the library and to the reference in turn.
-pub struct Session {
+pub struct Compared {
     record: Guarded<TransferRecord>,
     expected: reference::Transfer,
     tables: Tables,
@@ -62,10 +62,10 @@ pub struct Session {
     pub answers: Answers,
 }
 
-impl Session {
+impl Compared {
     /// A closed record, and tables of any content.
-    pub fn closed(random: &mut Random) -> Session {
-        Session {
+    pub fn closed(random: &mut Random) -> Compared {
+        Compared {
             record: Guarded::new(&[TransferRecord::default()], GUARD),
             expected: reference::Transfer::default(),
             tables: Tables::new(random, (16, 16)),
@@ -77,10 +77,10 @@ impl Session {
     }
 
     /// A transfer with tables of this length.
-    pub fn opened(random: &mut Random, size: usize) -> Session {
-        let mut session = Session::closed(random);
-        session.open(random, (size, size));
-        session
+    pub fn opened(random: &mut Random, size: usize) -> Compared {
+        let mut transfer = Compared::closed(random);
+        transfer.open(random, (size, size));
+        transfer
     }
 
     /// Opens the transfer with new tables of any content.

@@ -28,24 +28,24 @@ pub fn any_cut<'a>(random: &mut Random, stream: &'a [u8], count: usize) -> Vec<&
 }
 
 /// Sends the pieces, each with just enough room or some more, and now and then a piece that is refused. Closes; gives the reply.
-pub fn send(random: &mut Random, size: usize, pieces: &[&[u8]], is_disturbed: bool) -> (Session, FpcReply) {
-    let mut session = Session::opened(random, size);
+pub fn send(random: &mut Random, size: usize, pieces: &[&[u8]], is_disturbed: bool) -> (Compared, FpcReply) {
+    let mut transfer = Compared::opened(random, size);
     for piece in pieces {
         if is_disturbed && random.once_in(3) {
-            session.refused_piece(random);
+            transfer.refused_piece(random);
         }
         let more = random.pick(&[0, 0, 1, 7]);
-        session.piece(piece, 2 * piece.len() + more);
+        transfer.piece(piece, 2 * piece.len() + more);
     }
-    let close = session.close();
-    (session, close)
+    let close = transfer.close();
+    (transfer, close)
 }
 
 /// Sends the stream of a run, in pieces. It is a whole one and gives the run.
 fn send_run(random: &mut Random, size: usize, run: &[u64], pieces: &[&[u8]], is_disturbed: bool) {
-    let (session, close) = send(random, size, pieces, is_disturbed);
-    assert_eq!(close, FpcReply::done(run.len()), "{} in {} pieces", shown(&session.bytes), pieces.len());
-    assert!(session.doubles == run, "{} in {} pieces", shown(&session.bytes), pieces.len());
+    let (transfer, close) = send(random, size, pieces, is_disturbed);
+    assert_eq!(close, FpcReply::done(run.len()), "{} in {} pieces", shown(&transfer.bytes), pieces.len());
+    assert!(transfer.doubles == run, "{} in {} pieces", shown(&transfer.bytes), pieces.len());
 }
 
 /// Runs whose streams are short: near the predictions, or with many leading zeros.
@@ -169,14 +169,14 @@ fn closes_at_every_place() {
         for place in 0..=stream.len() {
             let count = random.below(4);
             let pieces = any_cut(&mut random, &stream[..place], count);
-            let mut session = Session::opened(&mut random, size);
+            let mut transfer = Compared::opened(&mut random, size);
             for piece in pieces {
-                session.piece(piece, 2 * piece.len());
+                transfer.piece(piece, 2 * piece.len());
             }
             let is_whole = ends.contains(&place) || place == stream.len();
-            let reply = session.close();
+            let reply = transfer.close();
             assert_eq!(reply.answer, if is_whole { 0 } else { 23 }, "{} of {place}", shown(&stream));
-            assert_eq!(reply.count as usize, if is_whole { session.doubles.len() } else { 0 });
+            assert_eq!(reply.count as usize, if is_whole { transfer.doubles.len() } else { 0 });
             answers.count(reply.answer);
         }
     }

@@ -16,11 +16,11 @@ fn in_three_ways(random: &mut Random, size: usize, bytes: &[u8], answers: &mut A
     let pieces = any_cut(random, bytes, count);
     let is_disturbed = random.once_in(8);
     for pieces in [bytes.chunks(1).collect(), pieces] {
-        let (session, other_close) = send(random, size, &pieces, is_disturbed);
-        assert!(session.doubles == whole.doubles, "tables of {size}, {}", shown(bytes));
-        assert!(session.tables() == whole.tables(), "tables of {size}, {}", shown(bytes));
+        let (transfer, other_close) = send(random, size, &pieces, is_disturbed);
+        assert!(transfer.doubles == whole.doubles, "tables of {size}, {}", shown(bytes));
+        assert!(transfer.tables() == whole.tables(), "tables of {size}, {}", shown(bytes));
         assert_eq!(other_close, close, "tables of {size}, {}", shown(bytes));
-        assert_eq!(session.is_damaged(), whole.is_damaged(), "tables of {size}, {}", shown(bytes));
+        assert_eq!(transfer.is_damaged(), whole.is_damaged(), "tables of {size}, {}", shown(bytes));
     }
     answers.count(close.answer);
 }
@@ -60,11 +60,11 @@ fn every_cut_of_short_streams() {
         stream.truncate(9);
         let (whole, close) = send(&mut random, size, &[&stream], false);
         for places in 0..1 << (stream.len() - 1) {
-            let (session, other_close) = send(&mut random, size, &cut_at(&stream, places), false);
-            assert_eq!(session.doubles, whole.doubles, "{} cut at {places:b}", shown(&stream));
-            assert!(session.tables() == whole.tables(), "{} cut at {places:b}", shown(&stream));
+            let (transfer, other_close) = send(&mut random, size, &cut_at(&stream, places), false);
+            assert_eq!(transfer.doubles, whole.doubles, "{} cut at {places:b}", shown(&stream));
+            assert!(transfer.tables() == whole.tables(), "{} cut at {places:b}", shown(&stream));
             assert_eq!(
-                (session.is_damaged(), other_close),
+                (transfer.is_damaged(), other_close),
                 (whole.is_damaged(), close),
                 "{}",
                 shown(&stream)
@@ -177,11 +177,11 @@ fn bytes_after_the_odd_end() {
         stream.extend([after, random.byte()]);
         for start in [0, end - 1, end] {
             for stop in [end + 1, end + 2] {
-                let mut session = Session::opened(&mut random, size);
-                assert_eq!(session.piece(&stream[..start], 2 * start).answer, 0);
-                let given = session.piece(&stream[start..stop], 2 * (stop - start));
-                assert_eq!((given.answer, &session.doubles), (23, &run), "{}", shown(&stream));
-                assert_eq!(session.close().answer, 23);
+                let mut transfer = Compared::opened(&mut random, size);
+                assert_eq!(transfer.piece(&stream[..start], 2 * start).answer, 0);
+                let given = transfer.piece(&stream[start..stop], 2 * (stop - start));
+                assert_eq!((given.answer, &transfer.doubles), (23, &run), "{}", shown(&stream));
+                assert_eq!(transfer.close().answer, 23);
             }
         }
     }
@@ -198,15 +198,15 @@ fn bytes_after_4096_doubles() {
         let end = stream.len();
         stream.extend([after, random.byte()]);
         for start in [0, end - 1, end] {
-            let mut session = Session::opened(&mut random, size);
-            assert_eq!(session.piece(&stream[..start], 2 * start).answer, 0);
-            let given = session.piece(&stream[start..], 2 * (end + 2 - start));
-            assert!((given.answer, &session.doubles) == (23, &run), "{after:x}");
-            assert_eq!(session.close().answer, 23);
+            let mut transfer = Compared::opened(&mut random, size);
+            assert_eq!(transfer.piece(&stream[..start], 2 * start).answer, 0);
+            let given = transfer.piece(&stream[start..], 2 * (end + 2 - start));
+            assert!((given.answer, &transfer.doubles) == (23, &run), "{after:x}");
+            assert_eq!(transfer.close().answer, 23);
         }
         // Without these bytes it is a stream, and an empty piece is no damage.
-        let (session, close) = send(&mut random, size, &[&stream[..end], &[]], false);
-        assert_eq!((session.is_damaged(), close), (false, FpcReply::done(4_096)), "{after:x}");
+        let (transfer, close) = send(&mut random, size, &[&stream[..end], &[]], false);
+        assert_eq!((transfer.is_damaged(), close), (false, FpcReply::done(4_096)), "{after:x}");
     }
     let maker = random.below(MAKERS);
     let longer = run(&mut random, maker, 64, 4_100);
@@ -218,9 +218,9 @@ fn bytes_after_4096_doubles() {
 fn gives_before_damage(random: &mut Random, size: usize, stream: &[u8], run: &[u64]) {
     for count in [0, 2] {
         let pieces = any_cut(random, stream, count);
-        let (session, close) = send(random, size, &pieces, false);
-        assert_eq!((session.is_damaged(), close), (true, FpcReply::refused(23)), "{}", shown(stream));
-        assert!(session.doubles == run, "{}", shown(stream));
+        let (transfer, close) = send(random, size, &pieces, false);
+        assert_eq!((transfer.is_damaged(), close), (true, FpcReply::refused(23)), "{}", shown(stream));
+        assert!(transfer.doubles == run, "{}", shown(stream));
     }
 }
 
@@ -234,23 +234,23 @@ fn half_bytes_with_their_bytes_one_at_a_time() {
             let size = random.pick(&SIZES);
             let len = 2 * random.below(5) + round % 2;
             let run = near_predictions(&mut random, size, len + 1);
-            let mut session = begun(&mut random, size, &run[..len], half as u8);
+            let mut transfer = begun(&mut random, size, &run[..len], half as u8);
             let bytes = bytes_of_half(half);
             for k in 1..=bytes {
                 let byte = if random.once_in(3) { 0 } else { random.byte() };
-                let given = session.piece(&[byte], 2);
+                let given = transfer.piece(&[byte], 2);
                 let is_last = k == bytes;
                 assert!(is_last || given == FpcReply::done(0), "half byte {half}, byte {k}");
                 answers.count(given.answer);
             }
-            session.close();
+            transfer.close();
         }
     }
     answers.must_include(&[0, 23]);
 }
 
 /// A transfer up to the half byte of the double after this run, and not further.
-fn begun(random: &mut Random, size: usize, run: &[u64], half: u8) -> Session {
+fn begun(random: &mut Random, size: usize, run: &[u64], half: u8) -> Compared {
     let mut predictors = Predictors::new(size);
     let (pairs, last) = run.split_at(run.len() - run.len() % 2);
     let (mut stream, _) = stream_of(size, pairs);
@@ -263,7 +263,7 @@ fn begun(random: &mut Random, size: usize, run: &[u64], half: u8) -> Session {
             stream.extend(bytes);
         }
     }
-    let mut session = Session::opened(random, size);
-    session.piece(&stream, 2 * stream.len());
-    session
+    let mut transfer = Compared::opened(random, size);
+    transfer.piece(&stream, 2 * stream.len());
+    transfer
 }

@@ -27,10 +27,10 @@ fn places() -> [Vec<u8>; 9] {
 }
 
 /// A transfer that has come to one of these places. Its last value and its hashes are other than 0.
-fn at_place(random: &mut Random, size: usize, bytes: &[u8]) -> Session {
-    let mut session = Session::opened(random, size);
-    session.piece(bytes, 2 * bytes.len());
-    session
+fn at_place(random: &mut Random, size: usize, bytes: &[u8]) -> Compared {
+    let mut transfer = Compared::opened(random, size);
+    transfer.piece(bytes, 2 * bytes.len());
+    transfer
 }
 
 /// Opening an open transfer starts anew, also with tables of another length: what comes after is as in a new one.
@@ -40,12 +40,12 @@ fn an_open_transfer_starts_anew() {
     for bytes in places() {
         for size in SIZES {
             for new_size in SIZES {
-                let mut session = at_place(&mut random, size, &bytes);
-                assert_eq!(session.open(&mut random, (new_size, new_size)), FpcReply::done(0));
+                let mut transfer = at_place(&mut random, size, &bytes);
+                assert_eq!(transfer.open(&mut random, (new_size, new_size)), FpcReply::done(0));
                 let run = near_predictions(&mut random, new_size, 9);
                 let (stream, _) = stream_of(new_size, &run);
-                assert_eq!(session.piece(&stream, 2 * stream.len()), FpcReply::done(9));
-                assert_eq!((session.close(), &session.doubles), (FpcReply::done(9), &run));
+                assert_eq!(transfer.piece(&stream, 2 * stream.len()), FpcReply::done(9));
+                assert_eq!((transfer.close(), &transfer.doubles), (FpcReply::done(9), &run));
             }
         }
     }
@@ -55,19 +55,19 @@ fn an_open_transfer_starts_anew() {
 #[test]
 fn a_transfer_of_any_run_starts_anew() {
     let mut random = Random::new(242);
-    let mut session = Session::closed(&mut random);
+    let mut transfer = Compared::closed(&mut random);
     for _ in 0..rounds(1000) {
         let size = random.pick(&SIZES);
-        session.open(&mut random, (size, size));
+        transfer.open(&mut random, (size, size));
         // An opened record is the same, whatever it was before.
         let mut other = TransferRecord::default();
         other.open(&mut vec![1; size], &mut vec![2; size]).unwrap();
-        assert_eq!(session.record(), other);
+        assert_eq!(transfer.record(), other);
         let (maker, len) = (random.below(MAKERS), random.below(20));
         let run = run(&mut random, maker, size, len);
         let (stream, _) = stream_of(size, &run);
         let end = random.below(stream.len() + 1);
-        assert_eq!(session.piece(&stream[..end], 2 * end).answer, 0);
+        assert_eq!(transfer.piece(&stream[..end], 2 * end).answer, 0);
     }
 }
 
@@ -93,18 +93,18 @@ fn records_of_any_numbers() {
 #[test]
 fn tables_of_every_length() {
     let mut random = Random::new(243);
-    let mut session = Session::closed(&mut random);
+    let mut transfer = Compared::closed(&mut random);
     let mut answer = |lens: (usize, usize), is_open: bool| {
         if is_open {
-            session.open(&mut random, (64, 64));
-            session.piece(&[0x66, 0x05], 4);
+            transfer.open(&mut random, (64, 64));
+            transfer.piece(&[0x66, 0x05], 4);
         }
-        let given = session.open(&mut random, lens);
+        let given = transfer.open(&mut random, lens);
         let is_good = lens.0 == lens.1 && SIZES.contains(&lens.0);
         assert_eq!(given, FpcReply::refused(if is_good { 0 } else { 20 }), "tables of {lens:?}");
         // A failed opening closes.
         let expected = if is_good { [FpcReply::done(2); 2] } else { [FpcReply::refused(25); 2] };
-        assert_eq!([session.piece(&[0x77], 2), session.close()], expected, "tables of {lens:?}");
+        assert_eq!([transfer.piece(&[0x77], 2), transfer.close()], expected, "tables of {lens:?}");
     };
     for size in (0..=1100).chain([2047, 2048, 4096]) {
         answer((size, size), size % 2 == 0);
@@ -125,11 +125,11 @@ fn a_failed_opening_at_every_place() {
     let mut random = Random::new(244);
     for bytes in places() {
         for lens in [(0, 0), (8, 8), (15, 15), (64, 32), (16, 64), (0, 64), (64, 0), (2048, 2048), (96, 96)] {
-            let mut session = at_place(&mut random, 64, &bytes);
-            assert_eq!(session.open(&mut random, lens), FpcReply::refused(20));
-            assert_eq!(session.piece(&[], 0), FpcReply::refused(25));
-            assert_eq!(session.piece_with(&mut random, (64, 64), &[0x77], 2), FpcReply::refused(25));
-            assert_eq!(session.close(), FpcReply::refused(25));
+            let mut transfer = at_place(&mut random, 64, &bytes);
+            assert_eq!(transfer.open(&mut random, lens), FpcReply::refused(20));
+            assert_eq!(transfer.piece(&[], 0), FpcReply::refused(25));
+            assert_eq!(transfer.piece_with(&mut random, (64, 64), &[0x77], 2), FpcReply::refused(25));
+            assert_eq!(transfer.close(), FpcReply::refused(25));
         }
     }
 }

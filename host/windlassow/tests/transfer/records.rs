@@ -188,9 +188,9 @@ fn open_records_with_one_field_changed() {
         for end in 0..=stream.len() + 1 {
             // The byte after the stream is damage if that has an odd end.
             let bytes = [&stream[..], &[0x77]].concat()[..end].to_vec();
-            let mut session = Session::opened(&mut random, size);
-            session.piece(&bytes, 2 * bytes.len());
-            let record = session.record();
+            let mut transfer = Compared::opened(&mut random, size);
+            transfer.piece(&bytes, 2 * bytes.len());
+            let record = transfer.record();
             states[record.state as usize] += 1;
             for changed in changed(&record) {
                 answers.count(try_record(&mut random, changed, size));
@@ -252,14 +252,14 @@ fn the_fields_of_a_record() {
         if random.once_in(3) {
             stream.extend([random.byte(), 0x77]);
         }
-        let mut session = Session::opened(&mut random, size);
+        let mut transfer = Compared::opened(&mut random, size);
         let count = random.below(stream.len() + 1);
         for piece in any_cut(&mut random, &stream, count) {
-            session.piece(piece, 2 * piece.len());
-            let record = session.record();
+            transfer.piece(piece, 2 * piece.len());
+            let record = transfer.record();
             let expected =
-                described(size, &session.bytes, &session.doubles, session.is_damaged(), record.pair);
-            assert_eq!(record, expected, "after {}", shown(&session.bytes));
+                described(size, &transfer.bytes, &transfer.doubles, transfer.is_damaged(), record.pair);
+            assert_eq!(record, expected, "after {}", shown(&transfer.bytes));
             states[record.state as usize] += 1;
         }
     }
@@ -299,13 +299,13 @@ fn records_that_are_kept() {
         let run = near_predictions(&mut random, size, 12);
         let (stream, _) = stream_of(size, &run);
         let cut = random.below(stream.len() + 1);
-        let mut session = Session::opened(&mut random, size);
-        session.piece(&stream[..cut], 2 * cut);
-        let (mut record, (mut f, mut d)) = (session.record(), session.tables());
-        session.close();
+        let mut transfer = Compared::opened(&mut random, size);
+        transfer.piece(&stream[..cut], 2 * cut);
+        let (mut record, (mut f, mut d)) = (transfer.record(), transfer.tables());
+        transfer.close();
         let mut rest = vec![99; 2 * (stream.len() - cut)];
         let given = record.piece(&mut f, &mut d, &stream[cut..], &mut rest).expect("the stream is good");
-        assert_eq!([&session.doubles, &rest[..given]].concat(), run);
+        assert_eq!([&transfer.doubles, &rest[..given]].concat(), run);
         assert_eq!(record.close(), Ok(12));
     }
 }

@@ -37,20 +37,20 @@ fn reply_to(faults: [bool; 6], bytes: &[u8]) -> FpcReply {
 }
 
 /// A transfer of two zeros, open or closed, damaged or not.
-fn two_zeros(random: &mut Random, faults: [bool; 6]) -> Session {
-    let mut session = Session::opened(random, 64);
-    session.piece(&[0x77], 2);
+fn two_zeros(random: &mut Random, faults: [bool; 6]) -> Compared {
+    let mut transfer = Compared::opened(random, 64);
+    transfer.piece(&[0x77], 2);
     if faults[OLD_DAMAGE] {
-        assert_eq!(session.piece(&[0xff], 2), FpcReply::refused(23));
+        assert_eq!(transfer.piece(&[0xff], 2), FpcReply::refused(23));
     }
     if faults[CLOSED] {
-        session.close();
+        transfer.close();
     }
-    session
+    transfer
 }
 
 /// After it the transfer goes on as if the piece had not been there, unless that was taken in.
-fn goes_on(session: &mut Session, faults: [bool; 6]) {
+fn goes_on(transfer: &mut Compared, faults: [bool; 6]) {
     let is_refused = faults[..NEW_DAMAGE].contains(&true);
     let is_damaged = faults[OLD_DAMAGE] || (faults[NEW_DAMAGE] && !is_refused);
     let expected = match (faults[CLOSED], is_damaged) {
@@ -59,7 +59,7 @@ fn goes_on(session: &mut Session, faults: [bool; 6]) {
         // Two zeros came before, one more now, and four if the piece was taken in.
         _ => [FpcReply::done(1), FpcReply::done(if is_refused { 3 } else { 7 })],
     };
-    assert_eq!([session.piece(&[0x76, 0x00], 4), session.close()], expected, "{faults:?}");
+    assert_eq!([transfer.piece(&[0x76, 0x00], 4), transfer.close()], expected, "{faults:?}");
 }
 
 /// Every combination of what can be wrong, with tables that are wrong in every way and with room that is short in every way.
@@ -77,14 +77,14 @@ fn every_combination() {
         let lens = if faults[TABLES] { &other_tables[..] } else { &[(64, 64)][..] };
         for &room in rooms {
             for &lens in lens {
-                let mut session = two_zeros(&mut random, faults);
+                let mut transfer = two_zeros(&mut random, faults);
                 let given = if faults[TABLES] {
-                    session.piece_with(&mut random, lens, &bytes, room)
+                    transfer.piece_with(&mut random, lens, &bytes, room)
                 } else {
-                    session.piece(&bytes, room)
+                    transfer.piece(&bytes, room)
                 };
                 assert_eq!(given, reply_to(faults, &bytes), "{faults:?}, room {room}, tables of {lens:?}");
-                goes_on(&mut session, faults);
+                goes_on(&mut transfer, faults);
                 answers.count(given.answer);
             }
         }
@@ -97,19 +97,19 @@ fn every_combination() {
 fn tables_of_every_length() {
     let mut random = Random::new(232);
     for size in SIZES {
-        let mut session = Session::opened(&mut random, size);
-        session.piece(&[0x66, 0x05], 4);
+        let mut transfer = Compared::opened(&mut random, size);
+        transfer.piece(&[0x66, 0x05], 4);
         for other in (0..=1100).chain([2047, 2048, 4096]).filter(|&other| other != size) {
             let lens = random.pick(&[(other, other), (size, other), (other, size)]);
-            assert_eq!(session.piece_with(&mut random, lens, &[0x00], 2), FpcReply::refused(20), "{lens:?}");
+            assert_eq!(transfer.piece_with(&mut random, lens, &[0x00], 2), FpcReply::refused(20), "{lens:?}");
         }
         // An empty piece too.
         for other in SIZES.into_iter().filter(|&other| other != size) {
             for lens in [(other, other), (size, other), (other, size)] {
-                assert_eq!(session.piece_with(&mut random, lens, &[], 0), FpcReply::refused(20), "{lens:?}");
+                assert_eq!(transfer.piece_with(&mut random, lens, &[], 0), FpcReply::refused(20), "{lens:?}");
             }
         }
-        assert_eq!([session.piece(&[0x00], 2), session.close()], [FpcReply::done(0), FpcReply::done(1)]);
+        assert_eq!([transfer.piece(&[0x00], 2), transfer.close()], [FpcReply::done(0), FpcReply::done(1)]);
     }
 }
 
@@ -120,13 +120,13 @@ fn every_room() {
     for len in 0..8 {
         for bytes in [vec![0x77; len], vec![0x00; len]] {
             for room in 0..2 * len + 4 {
-                let mut session = Session::opened(&mut random, 16);
-                let given = session.piece(&bytes, room);
+                let mut transfer = Compared::opened(&mut random, 16);
+                let given = transfer.piece(&bytes, room);
                 let doubles = if bytes.starts_with(&[0x77]) { 2 * len } else { 0 };
                 let expected =
                     if room < 2 * len { FpcReply::needs(22, 2 * len) } else { FpcReply::done(doubles) };
                 assert_eq!(given, expected, "{len} bytes, room {room}");
-                session.close();
+                transfer.close();
             }
         }
     }
@@ -139,17 +139,17 @@ fn short_room_at_the_end() {
     let mut random = Random::new(234);
     let full = vec![0x77; 2_048];
     for (stream, doubles) in [(vec![0x66, 0x05, 0x00], 1), (full, 4_096)] {
-        let mut session = Session::opened(&mut random, 16);
-        assert_eq!(session.piece(&stream, 2 * stream.len()), FpcReply::done(doubles));
+        let mut transfer = Compared::opened(&mut random, 16);
+        assert_eq!(transfer.piece(&stream, 2 * stream.len()), FpcReply::done(doubles));
         for room in [0, 1] {
-            assert_eq!(session.piece(&[0x77], room), FpcReply::needs(22, 2));
-            assert_eq!(session.piece(&[], room), FpcReply::done(0));
+            assert_eq!(transfer.piece(&[0x77], room), FpcReply::needs(22, 2));
+            assert_eq!(transfer.piece(&[], room), FpcReply::done(0));
         }
-        assert_eq!(session.piece(&[0x77], 2), FpcReply::refused(23));
+        assert_eq!(transfer.piece(&[0x77], 2), FpcReply::refused(23));
         for (bytes, room) in [(&[0x77][..], 1), (&[0x77], 2), (&[], 0), (&[0x77; 100], 0)] {
-            assert_eq!(session.piece(bytes, room), FpcReply::refused(23));
+            assert_eq!(transfer.piece(bytes, room), FpcReply::refused(23));
         }
-        assert_eq!(session.close(), FpcReply::refused(23));
+        assert_eq!(transfer.close(), FpcReply::refused(23));
     }
 }
 
@@ -162,16 +162,16 @@ fn the_longest_pieces() {
     let starts: [(&[u8], u32); 4] = [(&[], 4_096), (&[0x77], 4_094), (&[0x76], 4_095), (&[0x76, 0x00], 0)];
     for (start, doubles) in starts {
         for len in [65_535, 65_536] {
-            let mut session = Session::opened(&mut random, 16);
-            session.piece(start, 4);
-            assert_eq!(session.piece(&long, 131_074), FpcReply::refused(21));
-            assert_eq!(session.piece(&long, 0), FpcReply::refused(21));
-            assert_eq!(session.piece(&long[..len], 2 * len - 1), FpcReply::needs(22, 2 * len));
-            let given = session.piece(&long[..len], 2 * len);
+            let mut transfer = Compared::opened(&mut random, 16);
+            transfer.piece(start, 4);
+            assert_eq!(transfer.piece(&long, 131_074), FpcReply::refused(21));
+            assert_eq!(transfer.piece(&long, 0), FpcReply::refused(21));
+            assert_eq!(transfer.piece(&long[..len], 2 * len - 1), FpcReply::needs(22, 2 * len));
+            let given = transfer.piece(&long[..len], 2 * len);
             assert_eq!(given, FpcReply { answer: 23, count: doubles }, "after {start:x?}");
-            assert_eq!(session.piece(&long, 131_074), FpcReply::refused(21));
-            assert_eq!(session.piece(&long[..len], 0), FpcReply::refused(23));
-            assert_eq!(session.close(), FpcReply::refused(23));
+            assert_eq!(transfer.piece(&long, 131_074), FpcReply::refused(21));
+            assert_eq!(transfer.piece(&long[..len], 0), FpcReply::refused(23));
+            assert_eq!(transfer.close(), FpcReply::refused(23));
         }
     }
 }
@@ -183,16 +183,16 @@ fn use_after_a_close() {
     let streams: [(&[u8], u32); 5] =
         [(&[], 0), (&[0x77], 0), (&[0x76, 0x00], 0), (&[0x66, 0x05], 23), (&[0xff], 23)];
     for (stream, answer) in streams {
-        let mut session = Session::opened(&mut random, 16);
-        session.piece(stream, 2 * stream.len());
-        assert_eq!(session.close().answer, answer);
+        let mut transfer = Compared::opened(&mut random, 16);
+        transfer.piece(stream, 2 * stream.len());
+        assert_eq!(transfer.close().answer, answer);
         for (bytes, room) in [(&[][..], 0), (&[0x77], 2), (&[0x77], 0), (&[0x00; 3], 6)] {
-            assert_eq!(session.piece(bytes, room), FpcReply::refused(25));
+            assert_eq!(transfer.piece(bytes, room), FpcReply::refused(25));
         }
-        assert_eq!(session.piece_with(&mut random, (16, 32), &[0x77], 2), FpcReply::refused(25));
-        assert_eq!([session.close(), session.close()], [FpcReply::refused(25); 2]);
-        session.open(&mut random, (32, 32));
-        assert_eq!([session.piece(&[0x77], 2), session.close()], [FpcReply::done(2); 2]);
+        assert_eq!(transfer.piece_with(&mut random, (16, 32), &[0x77], 2), FpcReply::refused(25));
+        assert_eq!([transfer.close(), transfer.close()], [FpcReply::refused(25); 2]);
+        transfer.open(&mut random, (32, 32));
+        assert_eq!([transfer.piece(&[0x77], 2), transfer.close()], [FpcReply::done(2); 2]);
     }
 }
 
@@ -200,13 +200,13 @@ fn use_after_a_close() {
 #[test]
 fn any_mixture_of_calls() {
     let mut random = Random::new(237);
-    let mut session = Session::closed(&mut random);
+    let mut transfer = Compared::closed(&mut random);
     let mut rest: Vec<u8> = Vec::new();
     for _ in 0..rounds(40_000) {
         match random.below(40) {
             0..3 => {
                 let size = random.pick(&SIZES);
-                session.open(&mut random, (size, size));
+                transfer.open(&mut random, (size, size));
                 let (maker, len) = (random.below(MAKERS), random.below(16));
                 let run = run(&mut random, maker, size, len);
                 rest = stream_of(size, &run).0;
@@ -216,20 +216,20 @@ fn any_mixture_of_calls() {
             }
             3 => {
                 let lens = (random.pick(&[0, 8, 16, 32]), random.pick(&[16, 17, 64, 4096]));
-                session.open(&mut random, lens);
+                transfer.open(&mut random, lens);
             }
             4 | 5 => {
-                session.close();
+                transfer.close();
             }
-            6..10 => session.refused_piece(&mut random),
+            6..10 => transfer.refused_piece(&mut random),
             _ => {
                 let len = random.below(rest.len().min(9) + 1);
                 let room = if random.once_in(6) { random.below(2 * len + 1) } else { 2 * len };
-                if session.piece(&rest[..len], room).answer == 0 {
+                if transfer.piece(&rest[..len], room).answer == 0 {
                     rest.drain(..len);
                 }
             }
         }
     }
-    session.answers.must_include(&[0, 20, 21, 22, 23, 25]);
+    transfer.answers.must_include(&[0, 20, 21, 22, 23, 25]);
 }
