@@ -146,7 +146,7 @@ module _ (f d : List ℕ) (pieces : List Part) (good : goodTables f d ≡ true) 
         let p = 16 * halfAfter s v + lo in
         let more = second (machineAt size (update size s v) inSecond (length us + 1) p []) .doubles in
         let r = after-run (p ∷ remainingAfter s v) (e ∙ append-snoc (stream size us) p (remainingAfter s v))
-            ∙ ap (λ (x : Fed). us ++ x .doubles) (first-prompt size s (length us) _ p not-full sound v hv (high-half (halfAfter s v) lo hl)) in
+        ∙ ap (λ (x : Fed). us ++ x .doubles) (first-prompt size s (length us) _ p not-full sound v hv (high-half (halfAfter s v) lo hl)) in
         ap (take (length us + 1)) (r ∙ sym (append-snoc us v more)) ∙ take-at (us ++ v ∷ []) more (length us + 1) (length-append us (v ∷ []))
 
     first-waits-on : (lo : ℕ) → lo < 16 → (xs : List ℕ) → length xs < length (remainingAfter s v)

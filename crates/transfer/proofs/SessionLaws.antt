@@ -21,7 +21,7 @@ use Rattle.transfer.specs.Outcome.{Outcome, given, openOutcome, pieceOut
 use Rattle.transfer.specs.Session.{Part, Sent, taken, sent, session, closing}
 use Rattle.transfer_step.proofs.FeedLaws.{Lent, lent-feed, feed-append, feed-went, byte-damaged}
 use Rattle.transfer.proofs.WholeLaws.{feed-read}
-use Rattle.transfer_step.proofs.FitLaws.{Fit, fit-feed, fit-opened, fit-to}
+use Rattle.transfer_step.proofs.FitLaws.{Fit, fit-feed, fit-opened, fit-to, stays, feed-stays}
 
 -- bytes on both sides of a seam
 pub below-left : (n : ℕ) (xs ys : List ℕ) → AllBelow n (xs ++ ys) → 0 < n → AllBelow n xs

@@ -73,18 +73,18 @@ gives vs r = record { to = r .to; doubles = vs ++ r .doubles }
 abbrev pub damage : Machine → Fed
 damage m = silent (turned m damaged)
 
--- the double in hand, of a half byte, has all its bytes
+-- the double in hand, of this half byte, has all its bytes
 abbrev pub complete : Machine → ℕ → Bool
-complete m hb = eqb (m .held) (remainingCount (hb % 8))
+complete m nibble = eqb (m .held) (remainingCount (nibble % 8))
 
 -- that double
 abbrev pub inHand : Machine → ℕ → ℕ
-inHand m hb = bitXor (m .value) (prediction (fcm (m .at)) (dfcm (m .at)) (hb / 8))
+inHand m nibble = bitXor (m .value) (prediction (fcm (m .at)) (dfcm (m .at)) (nibble / 8))
 
 -- what a reader's step makes of that double, if it is complete: it is found where the rules code it so
 unfoldable pub judgement : Machine → ℕ → Option Found
 unfolding halfByte
-judgement m hb = cond (eqb (halfAfter (m .at) (inHand m hb)) hb) (some (record { double = inHand m hb; next = m .held })) none
+judgement m nibble = cond (eqb (halfAfter (m .at) (inHand m nibble)) nibble) (some (record { double = inHand m nibble; next = m .held })) none
 
 -- "Damage is a complete double that the rules code otherwise"; one that is found goes out, and the machine goes on in the next state
 abbrev pub goesOut : Machine → ℕ → (Machine → Fed) → Option Found → Fed
@@ -93,13 +93,13 @@ goesOut m next on (some x) = gives (x .double ∷ []) (on (past m next (x .doubl
 
 unfoldable pub judged : Machine → ℕ → ℕ → (Machine → Fed) → Fed
 unfolding judgement
-judged m hb next on = goesOut m next on (judgement m hb)
+judged m nibble next on = goesOut m next on (judgement m nibble)
 
--- half byte 6 and 00 in the second place
+-- half byte 6 and 00 in the second place, which are no double
 abbrev pub odd : Machine → Bool
 odd m = eqb (m .pair % 16) oddHalf && eqb (m .value) oddByte
 
--- they are the odd end, and no double
+-- in the second double of a pair: with its last byte it is the odd end, or judged
 unfoldable pub second : Machine → Fed
 unfolding judged
 second m =
@@ -107,6 +107,7 @@ second m =
     (cond (odd m) (silent (turned m ended)) (judged m (m .pair % 16) atPair silent))
     (silent m)
 
+-- in the first: with its last byte it is judged, and the second may need no byte of its own
 unfoldable pub first : Machine → Fed
 unfolding judged second
 first m = cond (complete m (m .pair / 16)) (judged m (m .pair / 16) inSecond second) (silent m)

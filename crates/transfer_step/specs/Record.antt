@@ -36,6 +36,7 @@ transfer m =
       g = m .at .g;
     }
 
+-- a closed record
 abbrev pub shut : Transfer
 shut = record { state = closed; given = 0; pair = 0; held = 0; value = 0; last = 0; size = 0; h = 0; g = 0 }
 
@@ -50,7 +51,7 @@ givenFits state given =
     (cond (eqb state inFirst) (eqb (given % 2) 0 && not (eqb given mostDoubles))
     (cond (eqb state inSecond || eqb state ended) (eqb (given % 2) 1) (eqb state damaged)))
 
--- a record that an opening and pieces can have made; any other counts as closed
+-- which records count as open: all that openings and pieces make (`FitLaws.fit-opened`, `fit-feed`), and no others but such as could stand for one; the rest are closed
 unfoldable pub fit : Transfer → Bool
 unfolding goodSize
 fit t =

@@ -196,7 +196,9 @@ pub extern "C" fn windlassow_transfer_piece(
 
 // A transfer is closed.
 #[no_mangle]
-pub extern "C" fn windlassow_transfer_close(transfer: &mut transfer_step::Transfer) -> fpc_run::Reply
+pub extern "C" fn windlassow_transfer_close(
+    transfer: &mut transfer_step::Transfer,
+) -> fpc_run::Reply
     ensures { λ r. ⌜ calledOff r (now (transfer .exit)) ≡ closeOutcome (now (transfer .entry)) ⌝ }
 {
     let r = transfer::close(*transfer);
