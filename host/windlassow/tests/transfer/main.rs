@@ -7,6 +7,7 @@ mod compare;
 mod cuts;
 mod damage;
 mod fit;
+mod interface;
 #[allow(dead_code)]
 #[path = "../fpc/make.rs"]
 mod make;
