@@ -1,7 +1,7 @@
 # What is not used. Reads, each from a file named so: imports (imports.awk), declarations (antt.awk), functions (rt.awk), words (tokens.awk, of .antt),
 # paths (paths.awk), trace (names in docs/TRACE.md), long (FILE, LINE, LENGTH).
 BEGIN { FS = "\t" }
-FILENAME == "imports" { i = ++imports; import[i, 1] = $1; import[i, 2] = $2; import[i, 3] = $3; import[i, 4] = $4; source[$1, $3] = where($4); next }
+FILENAME == "imports" { i = ++imports; import[i, 1] = $1; import[i, 2] = $2; import[i, 3] = $3; import[i, 4] = $4; source[$1, $3] = where($4); brought[where($4)] = 1; next }
 FILENAME == "declarations" {
     i = ++declarations
     file[i] = $1; at[i] = $2; name[i] = $3; text[i] = $6 " " $7
@@ -93,10 +93,17 @@ function unused_imports(   i, f, t) {
     for (i = 1; i <= paths; i++) { t = path[i]; sub(/::.*$/, "", t); rust[path_file[i], t] = 1 }
     for (i = 1; i <= imports; i++) {
         f = import[i, 1]; t = import[i, 3]
-        if (f ~ /\.rt$/ && import[i, 4] ~ /::/ ? (f, t) in rust : used(f, t)) continue
+        if (f ~ /\.rt$/ && import[i, 4] ~ /::/ ? (f, t) in rust : used(f, t) || passed_on(f, t)) continue
         n_imports++
         print f ":" import[i, 2] ": import of " t " (" import[i, 4] ")"
     }
+}
+
+# A name that is imported with `pub use`, and by another file from this one.
+function passed_on(f, t,   w) {
+    split(f, w, "/")
+    sub(/\.antt$/, "", w[4])
+    return (w[2] "." w[4] "." t) in brought
 }
 
 function clause_words(f, s,   w, n, i) {

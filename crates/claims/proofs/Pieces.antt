@@ -7,7 +7,7 @@ use native.Mathlib.Omega.{arith}
 use lib.Dec.{eqb, ltb, lit<}
 use lib.ListN.{length, take, drop, replicate, length-append}
 use lib.Seq.{take-at, drop-at, append-snoc}
-use borrow.Author.Tests.{eqb-true, eqb-false, eq-eqb, le-ltb, not-false}
+use borrow.Author.Tests.{eqb-true, eqb-false, eq-eqb, le-ltb}
 use Rattle.words.specs.Word.{AllBelow}
 use Rattle.fpc_stream.specs.Predictors.{Predictors, startPredictors, update}
 use Rattle.fpc_stream.specs.Stream.{remainingCount, halfAfter, remainingAfter, stream}
@@ -22,12 +22,13 @@ use Rattle.transfer.specs.Outcome.{Outcome, Closing, given, openOutcome, pieceO
 use Rattle.transfer.specs.Session.{Part, session}
 use Rattle.transfer_step.proofs.FeedLaws.{feed-went, lent-feed}
 use Rattle.transfer_step.proofs.FitLaws.{fit-of, fit-to, fit-feed}
-use Rattle.transfer.proofs.SessionLaws.{Follows, good-lent, below-left, session-follows, session-f, session-d, cuts-agree}
+use Rattle.transfer.proofs.SessionLaws.{good-lent, below-left, session-follows, session-f, session-d, cuts-agree}
 use Rattle.transfer.proofs.ReaderLaws.{closes-as-read, hands-out-as-read}
 use Rattle.transfer.proofs.WholeLaws.{machineAt}
 use Rattle.transfer.proofs.RunLaws.{sound-after, run-first, run-then}
 use Rattle.transfer.proofs.PromptLaws.{all-held, first-prompt, first-short, second-prompt, second-short}
-use Rattle.claims.specs.Pieces.{Closed, Opening, AfterClose, ones, NeverOpened, AsReader, CutsAgree, TablesStand, BeforeDamage, afterRun, EvenRun, FirstPrompt, SecondPrompt}
+use Rattle.claims.specs.Pieces.{Closed, Opening, AfterClose, ones, NeverOpened, AsReader, CutsAgree, TablesStand, BeforeDamage, afterRun, EvenRun}
+use Rattle.claims.specs.Pieces.{FirstPrompt, SecondPrompt}
 use Rattle.claims.specs.Pieces.{RefusedPiece, DamageStays, TwiceTheBytes, ModemPieces}
 
 -- ---- records that are not open
@@ -108,7 +109,8 @@ module _ (hi lo : ℕ) (h : lo < 16) where
   low-half : (16 * hi + lo) % 16 ≡ lo
   low-half = omega arith
 
-module _ (f d : List ℕ) (pieces : List Part) (good : goodTables f d ≡ true) (bytes : AllBelow 256 (session f d pieces .stream)) (us : List ℕ) (run : EvenRun us) where
+module _ (f d : List ℕ) (pieces : List Part) (good : goodTables f d ≡ true) (bytes : AllBelow 256 (session f d pieces .stream)) (us : List ℕ)
+    (run : EvenRun us) where
   abbrev size : ℕ
   size = length f
 
@@ -171,12 +173,14 @@ module _ (f d : List ℕ) (pieces : List Part) (good : goodTables f d ≡ true) 
       seam : (xs : List ℕ) → (stream size us ++ byte ∷ remainingAfter s v) ++ xs ≡ stream size us ++ ((byte ∷ remainingAfter s v) ++ xs)
       seam xs = append-assoc (stream size us) (byte ∷ remainingAfter s v) xs
 
-      second-out : session f d pieces .stream ≡ (stream size us ++ byte ∷ remainingAfter s v) ++ remainingAfter s′ w → session f d pieces .doubles ≡ us ++ v ∷ w ∷ []
+      second-out : session f d pieces .stream ≡ (stream size us ++ byte ∷ remainingAfter s v) ++ remainingAfter s′ w → session f d pieces .doubles
+          ≡ us ++ v ∷ w ∷ []
       second-out e =
           after-run ((byte ∷ remainingAfter s v) ++ remainingAfter s′ w) (e ∙ seam (remainingAfter s′ w))
           ∙ ap (λ (x : Fed). us ++ x .doubles) (second-prompt size s sound (length us) _ byte not-full v hv hi-is w hw lo-is)
 
-      second-waits-on : (xs : List ℕ) → length xs < length (remainingAfter s′ w) → session f d pieces .stream ≡ (stream size us ++ byte ∷ remainingAfter s v) ++ xs
+      second-waits-on : (xs : List ℕ) → length xs < length (remainingAfter s′ w) → session f d pieces .stream
+          ≡ (stream size us ++ byte ∷ remainingAfter s v) ++ xs
           → session f d pieces .doubles ≡ us ++ v ∷ []
       second-waits-on xs h e =
           let n : remainingCount (byte % 16 % 8) ≡ length (remainingAfter s′ w)
@@ -239,7 +243,8 @@ module _ (t : Transfer) (f d piece out : List ℕ) where
       go true e k = eqb-true _ _ e
       go false e k = absurd (omega arith)
 
-  refused-rows : (a b c e g : Bool) → before ≡ e → (byRows a b c e g .answer ≡ 0 → ⊥) → (byRows a b c e g .answer ≡ 23 → t .state ≡ damaged) → Stays (byRows a b c e g)
+  refused-rows : (a b c e g : Bool) → before ≡ e → (byRows a b c e g .answer ≡ 0 → ⊥) → (byRows a b c e g .answer ≡ 23 → t .state ≡ damaged)
+      → Stays (byRows a b c e g)
   unfolding byRows refused Stays
   refused-rows false b c e g q h k = (refl, refl, refl, refl)
   refused-rows true false c e g q h k = (refl, refl, refl, refl)
@@ -253,7 +258,8 @@ module _ (t : Transfer) (f d piece out : List ℕ) where
     Again : Type 0
     Again = pieceOutcome (o .transfer) (o .f) (o .d) next room ≡ record { answer = 23; count = 0; transfer = o .transfer; out = room; f = o .f; d = o .d }
 
-    again : fit (o .transfer) ≡ true → (goodTables (o .f) (o .d) && eqb (length (o .f)) (o .transfer .size)) ≡ true → o .transfer .state ≡ damaged → length next ≤ mostBytes → Again
+    again : fit (o .transfer) ≡ true → (goodTables (o .f) (o .d) && eqb (length (o .f)) (o .transfer .size)) ≡ true → o .transfer .state ≡ damaged
+        → length next ≤ mostBytes → Again
     unfolding Again pieceOutcome
     again a b e l = rw (a, b, le-ltb mostBytes (length next) l, eq-eqb (o .transfer .state) damaged e)
 
@@ -272,7 +278,8 @@ module _ (t : Transfer) (f d piece out : List ℕ) where
       let sized = lent-feed (machine t f d) piece (n, sym (same-length f d (p .0)) ∙ n) in
       again (given out fed) next room (fit-to (fed .to) q) (good-lent (fed .to) q sized) (given-damaged h) l
 
-  room-rows : (a b c e g : Bool) → (byRows a b c e g .answer ≡ 22 → ⊥) → (byRows a b c e g .count ≤ 2 * length piece) × (drop (byRows a b c e g .count) (byRows a b c e g .out) ≡ drop (byRows a b c e g .count) out)
+  room-rows : (a b c e g : Bool) → (byRows a b c e g .answer ≡ 22 → ⊥) → (byRows a b c e g .count ≤ 2 * length piece)
+      × (drop (byRows a b c e g .count) (byRows a b c e g .out) ≡ drop (byRows a b c e g .count) out)
   unfolding byRows refused
   room-rows false b c e g h = (omega arith, refl)
   room-rows true false c e g h = (omega arith, refl)
@@ -290,7 +297,8 @@ refused-piece t f d piece out h k =
 damage-stays : DamageStays
 unfolding pieceOutcome byRows refused Again
 damage-stays t f d piece out h z next room l =
-    damage-rows t f d piece out (fit t) (lent t f d piece out) (long t f d piece out) (before t f d piece out) (tight t f d piece out) refl refl refl h z next room l
+    damage-rows t f d piece out (fit t) (lent t f d piece out) (long t f d piece out) (before t f d piece out)
+    (tight t f d piece out) refl refl refl h z next room l
 
 twice-the-bytes : TwiceTheBytes
 unfolding pieceOutcome byRows refused

@@ -59,7 +59,8 @@ AsReader =
     → goodTables f d ≡ true → AllBelow 256 (session f d pieces .stream) → mostDoubles ≤ length out
     → let s = session f d pieces in
     let r = fpcReadOutcome f d (s .stream) out in
-    (closeOutcome (s .transfer) ≡ cond (eqb (r .answer) 0) (record { answer = 0; count = r .count; transfer = shut }) (record { answer = 23; count = 0; transfer = shut }))
+    (closeOutcome (s .transfer)
+    ≡ cond (eqb (r .answer) 0) (record { answer = 0; count = r .count; transfer = shut }) (record { answer = 23; count = 0; transfer = shut }))
     × (r .answer ≡ 0 → (r .out ≡ s .doubles ++ drop (length (s .doubles)) out) × (r .f ≡ s .f) × (r .d ≡ s .d))
 
 -- "the same for every cut": record, tables and doubles, damaged or not
@@ -143,4 +144,5 @@ TwiceTheBytes =
 
 abbrev pub ModemPieces : Type 0
 ModemPieces =
-    Opening × AfterClose × NeverOpened × AsReader × CutsAgree × TablesStand × BeforeDamage × FirstPrompt × SecondPrompt × RefusedPiece × DamageStays × TwiceTheBytes
+    Opening × AfterClose × NeverOpened × AsReader × CutsAgree × TablesStand × BeforeDamage × FirstPrompt × SecondPrompt
+    × RefusedPiece × DamageStays × TwiceTheBytes

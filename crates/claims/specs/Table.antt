@@ -345,8 +345,8 @@ inPieces pieces = session (replicate 16 7) (replicate 16 8) (map (λ bytes. reco
 abbrev pub closedAfter : List (List ℕ) → Closing
 closedAfter pieces = closeOutcome (inPieces pieces .transfer)
 
--- P10's 77 gives two doubles with one byte. The first double of 76 goes out while its second half byte waits; 00 is the odd end at once, and any byte after it is
--- damage. 66 00 is no double in the first place, whatever comes. P11's stream, cut in its first double
+-- P10's 77 gives two doubles with one byte. The first double of 76 goes out while its second half byte waits; 00 is the odd end at once, and any byte
+-- after it is damage. 66 00 is no double in the first place, whatever comes. P11's stream, cut in its first double
 abbrev pub Pieces : Type 0
 Pieces =
     (inPieces ((0x77 ∷ []) ∷ []) .doubles ≡ 0 ∷ 0 ∷ [])

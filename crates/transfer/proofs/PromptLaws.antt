@@ -17,7 +17,8 @@ use Rattle.fpc_stream.specs.Reading.{Found, mostDoubles}
 use Rattle.fpc_stream.proofs.CodeLaws.{half-code}
 use Rattle.fpc_stream.proofs.StepLaws.{length-remaining, step-right}
 use Rattle.fpc_stream.proofs.Sound.{Sound, fcm-lt, dfcm-lt, sound-update}
-use Rattle.transfer_step.specs.Machine.{Machine, Fed, atPair, inFirst, inSecond, past, silent, gives, judgement, goesOut, judged, odd, second, first, feedByte, feed}
+use Rattle.transfer_step.specs.Machine.{Machine, Fed, atPair, inFirst, inSecond, past, silent, gives, judgement, goesOut, judged, odd, second, first, feedByte}
+use Rattle.transfer_step.specs.Machine.{feed}
 use Rattle.transfer.proofs.StepLaws.{odd-none}
 use Rattle.transfer_step.proofs.FeedLaws.{byte-pair, byte-first, byte-second, feed-append, feed-snoc}
 use Rattle.transfer.proofs.WholeLaws.{machineAt, judges-as-step, held-more}
@@ -28,12 +29,14 @@ module _ (size : ℕ) (s : Predictors) (sound : Sound s) (v : ℕ) (hv : v < 2 ^
   pub all-held : length (remainingAfter s v) ≡ remainingCount (halfAfter s v % 8)
   all-held = length-remaining (fcm s) (dfcm s) v ∙ ap remainingCount (sym (half-code (fcm s) (dfcm s) v))
 
-  judgement-right : (state n p : ℕ) → judgement (machineAt size s state n p (remainingAfter s v)) (halfAfter s v) ≡ some (record { double = v; next = length (remainingAfter s v) })
+  judgement-right : (state n p : ℕ) → judgement (machineAt size s state n p (remainingAfter s v)) (halfAfter s v)
+      ≡ some (record { double = v; next = length (remainingAfter s v) })
   judgement-right state n p =
       sym (judges-as-step size s state n p (remainingAfter s v) [] (halfAfter s v) all-held) ∙ step-right (fcm s) (dfcm s) v [] (fcm-lt s sound) (dfcm-lt s) hv
 
   judged-right : (state n p next : ℕ) (on : Machine → Fed)
-      → judged (machineAt size s state n p (remainingAfter s v)) (halfAfter s v) next on ≡ gives (v ∷ []) (on (past (machineAt size s state n p (remainingAfter s v)) next v))
+      → judged (machineAt size s state n p (remainingAfter s v)) (halfAfter s v) next on
+      ≡ gives (v ∷ []) (on (past (machineAt size s state n p (remainingAfter s v)) next v))
   unfolding judged
   judged-right state n p next on = ap (goesOut (machineAt size s state n p (remainingAfter s v)) next on) (judgement-right state n p)
 
@@ -41,7 +44,8 @@ module _ (size : ℕ) (s : Predictors) (sound : Sound s) (v : ℕ) (hv : v < 2 ^
       → first (machineAt size s inFirst n p (remainingAfter s v)) ≡ gives (v ∷ []) (second (machineAt size (update size s v) inSecond (n + 1) p []))
   first-right n p e =
       let m = machineAt size s inFirst n p (remainingAfter s v) in
-      first-judged m (all-held ∙ ap (λ (h : ℕ). remainingCount (h % 8)) (sym e)) ∙ ap (λ (h : ℕ). judged m h inSecond second) e ∙ judged-right inFirst n p inSecond second
+      first-judged m (all-held ∙ ap (λ (h : ℕ). remainingCount (h % 8)) (sym e)) ∙ ap (λ (h : ℕ). judged m h inSecond second) e
+      ∙ judged-right inFirst n p inSecond second
 
   -- the bytes of a double are not the odd end
   not-odd : (state n p : ℕ) → p % 16 ≡ halfAfter s v → odd (machineAt size s state n p (remainingAfter s v)) ≡ false
@@ -81,9 +85,11 @@ last-of x (y ∷ xs) = let r = last-of y xs in record { front = x ∷ r .front; 
 -- in either double of a pair, with its half byte hb: what the machine does with a byte more, and that it waits for the last one
 module _ (size : ℕ) (s : Predictors) (n p state hb : ℕ) (step : Machine → Fed)
     (takes : (held : List ℕ) (b : ℕ) → feedByte (machineAt size s state n p held) b ≡ step (machineAt size s state n p (held ++ b ∷ [])))
-    (waits : (held : List ℕ) → (length held ≡ remainingCount (hb % 8) → ⊥) → step (machineAt size s state n p held) ≡ silent (machineAt size s state n p held)) where
+    (waits : (held : List ℕ) → (length held ≡ remainingCount (hb % 8) → ⊥) → step (machineAt size s state n p held)
+    ≡ silent (machineAt size s state n p held)) where
   -- no double goes out before its last byte
-  held-on : (held xs : List ℕ) → length held + length xs < remainingCount (hb % 8) → feed (machineAt size s state n p held) xs ≡ silent (machineAt size s state n p (held ++ xs))
+  held-on : (held xs : List ℕ) → length held + length xs < remainingCount (hb % 8) → feed (machineAt size s state n p held) xs
+      ≡ silent (machineAt size s state n p (held ++ xs))
   held-on held [] h = rw (append-nil held)
   held-on held (b ∷ xs) h =
       let l = length-append held (b ∷ []) in
@@ -118,7 +124,8 @@ module _ (size : ℕ) (s : Predictors) (n q p : ℕ) (room : n ≡ mostDoubles �
   first-takes : (held : List ℕ) (b : ℕ) → feedByte (machineAt size s inFirst n p held) b ≡ first (machineAt size s inFirst n p (held ++ b ∷ []))
   first-takes held b = byte-first (machineAt size s inFirst n p held) b refl ∙ ap first (sym (held-more size s inFirst n p held b))
 
-  first-wait : (held : List ℕ) → (length held ≡ remainingCount (p / 16 % 8) → ⊥) → first (machineAt size s inFirst n p held) ≡ silent (machineAt size s inFirst n p held)
+  first-wait : (held : List ℕ) → (length held ≡ remainingCount (p / 16 % 8) → ⊥) → first (machineAt size s inFirst n p held)
+      ≡ silent (machineAt size s inFirst n p held)
   first-wait held h = first-waits (machineAt size s inFirst n p held) h
 
   pair-first : (xs : List ℕ) → feed (machineAt size s atPair n q []) (p ∷ xs)
@@ -130,17 +137,20 @@ module _ (size : ℕ) (s : Predictors) (n q p : ℕ) (room : n ≡ mostDoubles �
       → feed (machineAt size s atPair n q []) (p ∷ remainingAfter s v) ≡ gives (v ∷ []) (second (machineAt size (update size s v) inSecond (n + 1) p []))
   first-prompt sound v hv e =
       let full = all-held size s sound v hv ∙ ap (λ (h : ℕ). remainingCount (h % 8)) (sym e) in
-      pair-first (remainingAfter s v) ∙ all-fed size s n p inFirst (p / 16) first first-takes first-wait (remainingAfter s v) full ∙ first-right size s sound v hv n p e
+      pair-first (remainingAfter s v) ∙ all-fed size s n p inFirst (p / 16) first first-takes first-wait (remainingAfter s v) full
+      ∙ first-right size s sound v hv n p e
 
   -- and not before
-  pub first-short : (xs : List ℕ) → length xs < remainingCount (p / 16 % 8) → feed (machineAt size s atPair n q []) (p ∷ xs) ≡ silent (machineAt size s inFirst n p xs)
+  pub first-short : (xs : List ℕ) → length xs < remainingCount (p / 16 % 8) → feed (machineAt size s atPair n q []) (p ∷ xs)
+      ≡ silent (machineAt size s inFirst n p xs)
   first-short xs h = pair-first xs ∙ short-fed size s n p inFirst (p / 16) first first-takes first-wait xs h
 
 module _ (size : ℕ) (s : Predictors) (n p : ℕ) where
   second-takes : (held : List ℕ) (b : ℕ) → feedByte (machineAt size s inSecond n p held) b ≡ second (machineAt size s inSecond n p (held ++ b ∷ []))
   second-takes held b = byte-second (machineAt size s inSecond n p held) b refl ∙ ap second (sym (held-more size s inSecond n p held b))
 
-  second-wait : (held : List ℕ) → (length held ≡ remainingCount (p % 16 % 8) → ⊥) → second (machineAt size s inSecond n p held) ≡ silent (machineAt size s inSecond n p held)
+  second-wait : (held : List ℕ) → (length held ≡ remainingCount (p % 16 % 8) → ⊥) → second (machineAt size s inSecond n p held)
+      ≡ silent (machineAt size s inSecond n p held)
   second-wait held h = second-waits (machineAt size s inSecond n p held) h
 
 module _ (size : ℕ) (s : Predictors) (sound : Sound s) (n q p : ℕ) (room : n ≡ mostDoubles → ⊥) (v : ℕ) (hv : v < 2 ^ 64) (e : p / 16 ≡ halfAfter s v) where
@@ -156,7 +166,8 @@ module _ (size : ℕ) (s : Predictors) (sound : Sound s) (n q p : ℕ) (room : n
 
   -- the second double goes out with its last byte
   pub second-prompt : (w : ℕ) → w < 2 ^ 64 → p % 16 ≡ halfAfter then w
-      → feed (machineAt size s atPair n q []) ((p ∷ remainingAfter s v) ++ remainingAfter then w) ≡ gives (v ∷ w ∷ []) (silent (machineAt size (update size then w) atPair (n + 1 + 1) p []))
+      → feed (machineAt size s atPair n q []) ((p ∷ remainingAfter s v) ++ remainingAfter then w)
+      ≡ gives (v ∷ w ∷ []) (silent (machineAt size (update size then w) atPair (n + 1 + 1) p []))
   second-prompt w hw e′ =
       let sound′ = sound-update size s v hv sound in
       let full = all-held size then sound′ w hw ∙ ap (λ (h : ℕ). remainingCount (h % 8)) (sym e′) in

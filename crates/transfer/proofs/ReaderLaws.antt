@@ -46,15 +46,18 @@ module _ (f d bytes out : List ℕ) (good : goodTables f d ≡ true) (below : Al
   unfolding fpcReadOutcome done
   reads-closing = go (read (length f) bytes) refl
     where
-      long : (b : Bool) → closing none ≡ closingBy (cond b (unchanged 21 out f d) (zeroed 23 0 (length f) out) .answer) (cond b (unchanged 21 out f d) (zeroed 23 0 (length f) out) .count)
+      long : (b : Bool) → closing none
+          ≡ closingBy (cond b (unchanged 21 out f d) (zeroed 23 0 (length f) out) .answer) (cond b (unchanged 21 out f d) (zeroed 23 0 (length f) out) .count)
       long true = refl
       long false = refl
 
-      go : (o : Option (List ℕ)) → read (length f) bytes ≡ o → closing o ≡ closingBy (fpcReadOutcome f d bytes out .answer) (fpcReadOutcome f d bytes out .count)
+      go : (o : Option (List ℕ)) → read (length f) bytes ≡ o → closing o
+          ≡ closingBy (fpcReadOutcome f d bytes out .answer) (fpcReadOutcome f d bytes out .count)
       go none e = rw (good, e) (long (ltb mostBytes (length bytes)))
       go (some vs) e = rw (reads-some vs e)
 
-module _ (f d : List ℕ) (good : goodTables f d ≡ true) (ps : List Part) (below : AllBelow 256 (session f d ps .stream)) (out : List ℕ) (room : mostDoubles ≤ length out) where
+module _ (f d : List ℕ) (good : goodTables f d ≡ true) (ps : List Part) (below : AllBelow 256 (session f d ps .stream)) (out : List ℕ)
+    (room : mostDoubles ≤ length out) where
   abbrev whole : Outcome
   whole = fpcReadOutcome f d (session f d ps .stream) out
 
@@ -69,7 +72,8 @@ module _ (f d : List ℕ) (good : goodTables f d ≡ true) (ps : List Part) (bel
   hands-out-as-read accepts = go (read (length f) (session f d ps .stream)) refl
     where
       go : (o : Option (List ℕ)) → read (length f) (session f d ps .stream) ≡ o
-          → (whole .out ≡ session f d ps .doubles ++ drop (length (session f d ps .doubles)) out) × (whole .f ≡ session f d ps .f) × (whole .d ≡ session f d ps .d)
+          → (whole .out ≡ session f d ps .doubles ++ drop (length (session f d ps .doubles)) out) × (whole .f ≡ session f d ps .f)
+          × (whole .d ≡ session f d ps .d)
       go none e = absurd (omega (arith, accepts, reads-none f d (session f d ps .stream) out good below room e))
       go (some vs) e =
           let r = reads-some f d (session f d ps .stream) out good below room vs e in

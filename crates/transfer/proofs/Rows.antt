@@ -15,7 +15,7 @@ use Rattle.transfer.specs.declared.Answered.{Answered}
 use Rattle.transfer_step.specs.declared.Taken.{Taken}
 use Rattle.transfer_step.specs.Machine.{Machine, atPair, ended, damaged, opened, feed}
 use Rattle.transfer_step.specs.Record.{machine, transfer, shut, fit}
-use Rattle.transfer.specs.Outcome.{Outcome, Closing, given, openOutcome, pieceOutcome, closeOutcome}
+use Rattle.transfer.specs.Outcome.{Outcome, Closing, openOutcome, pieceOutcome, closeOutcome}
 use Rattle.transfer_step.specs.Calls.{Standing, Gave}
 use Rattle.transfer.specs.Calls.{called, calledOff}
 use Rattle.transfer_step.proofs.FeedLaws.{feed-went}
@@ -70,7 +70,8 @@ module _ (t : Transfer) (f d piece out : List ℕ) (r : Answered) where
   piece-25 e q = ap (beside out f d) q ∙ rw e
 
   module _ (open-now : fit t ≡ true) where
-    pub piece-20 : (eqb (length f) (length d) && goodSize (length f)) ≡ false → replies r 20 0 t → called (r .reply) (r .transfer) out f d ≡ pieceOutcome t f d piece out
+    pub piece-20 : (eqb (length f) (length d) && goodSize (length f)) ≡ false → replies r 20 0 t → called (r .reply) (r .transfer) out f d
+        ≡ pieceOutcome t f d piece out
     unfolding pieceOutcome goodTables
     piece-20 e q = ap (beside out f d) q ∙ rw (open-now, e)
 
@@ -87,18 +88,29 @@ module _ (t : Transfer) (f d piece out : List ℕ) (r : Answered) where
         module _ (short : length piece ≤ mostBytes) where
           pub piece-23 : t .state ≡ damaged → replies r 23 0 t → called (r .reply) (r .transfer) out f d ≡ pieceOutcome t f d piece out
           unfolding pieceOutcome goodTables
-          piece-23 e q = ap (beside out f d) q ∙ rw (open-now, good, eq-eqb (length f) (t .size) same, le-ltb mostBytes (length piece) short, eq-eqb (t .state) damaged e)
+          piece-23 e q = ap (beside out f d) q
+              ∙ rw (open-now, good, eq-eqb (length f) (t .size) same, le-ltb mostBytes (length piece) short, eq-eqb (t .state) damaged e)
 
           module _ (sane : t .state ≡ damaged → ⊥) where
-            pub piece-22 : length out < 2 * length piece → replies r 22 (2 * length piece) t → called (r .reply) (r .transfer) out f d ≡ pieceOutcome t f d piece out
+            pub piece-22 : length out < 2 * length piece → replies r 22 (2 * length piece) t → called (r .reply) (r .transfer) out f d
+                ≡ pieceOutcome t f d piece out
             unfolding pieceOutcome goodTables
             piece-22 h q =
                 ap (beside out f d) q
-                ∙ rw (open-now, good, eq-eqb (length f) (t .size) same, le-ltb mostBytes (length piece) short, ne-eqb (t .state) damaged sane, lt-ltb (length out) (2 * length piece) h)
+                ∙ rw (
+                  open-now,
+                  good,
+                  eq-eqb (length f) (t .size) same,
+                  le-ltb mostBytes (length piece) short,
+                  ne-eqb (t .state) damaged sane,
+                  lt-ltb
+                      (length out) (2 * length piece) h,
+                )
 
             -- the bytes were fed: 0, or the last 23
             pub piece-done : 2 * length piece ≤ length out → (k : Taken) (out′ f′ d′ : List ℕ) → Gave (feed (machine t f d) piece) out 0 k out′ f′ d′
-                → (answer : ℕ) → answer ≡ cond (eqb (k .transfer .state) damaged) 23 0 → replies r answer (k .next) (k .transfer) → called (r .reply) (r .transfer) out′ f′ d′ ≡ pieceOutcome t f d piece out
+                → (answer : ℕ) → answer ≡ cond (eqb (k .transfer .state) damaged) 23 0 → replies r answer (k .next) (k .transfer)
+                → called (r .reply) (r .transfer) out′ f′ d′ ≡ pieceOutcome t f d piece out
             unfolding pieceOutcome goodTables
             piece-done h k out′ f′ d′ g answer ea q =
                 let vs = feed (machine t f d) piece .doubles in
@@ -107,6 +119,32 @@ module _ (t : Transfer) (f d piece out : List ℕ) (r : Answered) where
                 let o : out′ ≡ vs ++ drop (length vs) out = g .put ∙ sets-eq vs out 0 room ∙ rw (zero-add (length vs)) in
                 ap (beside out′ f′ d′) q
                 ∙ ap₂ (λ (a : ℕ) (l : List ℕ). record { answer = a; count = k .next; transfer = k .transfer; out = l; f = f′; d = d′ }) ea o
-                ∙ ap (λ (c : ℕ). record { answer = cond (eqb (k .transfer .state) damaged) 23 0; count = c; transfer = k .transfer; out = vs ++ drop (length vs) out; f = f′; d = d′ }) n
-                ∙ ap (λ (m : Machine). record { answer = cond (eqb (m .state) damaged) 23 0; count = length vs; transfer = transfer m; out = vs ++ drop (length vs) out; f = m .at .f; d = m .at .d }) (g .to-is)
-                ∙ rw (open-now, good, eq-eqb (length f) (t .size) same, le-ltb mostBytes (length piece) short, ne-eqb (t .state) damaged sane, le-ltb (length out) (2 * length piece) h)
+                ∙ ap (λ (c : ℕ).
+                record {
+                  answer = cond (eqb (k .transfer .state) damaged) 23 0;
+                  count = c;
+                  transfer = k .transfer;
+                  out = vs ++ drop
+                      (length vs) out;
+                  f = f′;
+                  d = d′;
+                }) n
+                ∙ ap (λ (m : Machine).
+                record {
+                  answer = cond (eqb (m .state) damaged) 23 0;
+                  count = length vs;
+                  transfer = transfer m;
+                  out = vs ++ drop
+                      (length vs) out;
+                  f = m .at .f;
+                  d = m .at .d;
+                }) (g .to-is)
+                ∙ rw (
+                  open-now,
+                  good,
+                  eq-eqb (length f) (t .size) same,
+                  le-ltb mostBytes (length piece) short,
+                  ne-eqb (t .state) damaged sane,
+                  le-ltb
+                      (length out) (2 * length piece) h,
+                )

@@ -1,5 +1,5 @@
 -- What the stream of a run makes of an opened transfer. Assumes nothing.
-use mathlib.Core.Path.{_≡_, refl, sym, ap, _∙_, subst}
+use mathlib.Core.Path.{_≡_, refl, ap, _∙_, subst}
 use mathlib.Core.Bool.{Bool, true, false, cond, _||_}
 use mathlib.Core.List.{List, [], _∷_, _++_}
 use mathlib.Core.Option.{none, some}
@@ -8,15 +8,14 @@ use native.Mathlib.Omega.{arith}
 use lib.Dec.{eqb}
 use lib.ListN.{length, take}
 use lib.Seq.{take-at}
-use borrow.Author.Tests.{eqb-true}
 use Rattle.words.specs.Word.{AllBelow}
 use Rattle.fpc_stream.specs.Predictors.{Predictors, startPredictors, update, after}
 use Rattle.fpc_stream.specs.Stream.{stream}
 use Rattle.fpc_stream.specs.Reading.{mostDoubles}
 use Rattle.fpc_stream.specs.Outcome.{goodSize}
 use Rattle.fpc_stream.proofs.RoundTrip.{read-stream}
-use Rattle.fpc_stream.proofs.Sound.{Sound, sound-start, sound-update}
-use Rattle.transfer_step.specs.Machine.{Machine, Fed, atPair, ended, opened, gives, feed, whole}
+use Rattle.fpc_stream.proofs.Sound.{Sound, sound-update}
+use Rattle.transfer_step.specs.Machine.{Fed, atPair, ended, opened, gives, feed, whole}
 use Rattle.transfer_step.specs.Record.{heldBelow}
 use Rattle.transfer_step.proofs.FeedLaws.{feed-went, feed-append}
 use Rattle.transfer_step.proofs.FitLaws.{Fit, Counted, at-pair, in-first, in-second, after-end, after-damage, fit-feed, fit-opened}
@@ -77,7 +76,8 @@ module _ (size : ℕ) (vs : List ℕ) (doubles : AllBelow (2 ^ 64) vs) (most : l
     pub run-ends : fed ≡ record { to = machineAt size (after size (startPredictors size) vs) atPair (length vs) (fed .to .pair) []; doubles = vs }
     run-ends =
         let w = feed-went (opened size) (stream size vs) in
-        fed-same (w .size-is) (w .at-is ∙ ap (after size (startPredictors size)) (run-whole .1)) state-is given-is (fed .to .pair) held-is value-is (run-whole .1)
+        fed-same (w .size-is) (w .at-is ∙ ap (after size (startPredictors size)) (run-whole .1)) state-is given-is (fed .to .pair) held-is value-is
+        (run-whole .1)
 
     pub run-then : (rest : List ℕ) → feed (opened size) (stream size vs ++ rest)
         ≡ gives vs (feed (machineAt size (after size (startPredictors size) vs) atPair (length vs) (fed .to .pair) []) rest)

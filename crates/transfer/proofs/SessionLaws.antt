@@ -1,25 +1,25 @@
 -- However a stream is cut, the pieces hand out the same doubles, and the close answers as the whole-stream reader does. Assumes nothing.
 use mathlib.Core.Path.{_≡_, refl, sym, ap, _∙_, subst}
-use mathlib.Core.Bool.{Bool, true, false, cond, not, _&&_, _||_, and-eq-true-iff}
+use mathlib.Core.Bool.{Bool, true, false, cond, _&&_, and-eq-true-iff}
 use mathlib.Core.List.{List, [], _∷_, _++_}
 use mathlib.Core.Option.{none, some}
-use Prim.Native.Nat.{ℕ, zero, suc, _*_, _^_, _<_}
+use Prim.Native.Nat.{ℕ, zero, suc, _*_, _<_}
 use native.Mathlib.Omega.{arith}
 use lib.Dec.{eqb, ltb, lit<}
-use lib.ListN.{length, take, drop, length-set, length-replicate}
+use lib.ListN.{length, take, drop, length-replicate}
 use lib.Seq.{take-at}
 use borrow.Author.Tests.{eqb-true, eq-eqb}
 use Rattle.words.specs.Word.{AllBelow}
-use Rattle.fpc_stream.specs.Predictors.{Predictors, startPredictors, update, after}
+use Rattle.fpc_stream.specs.Predictors.{Predictors, startPredictors, after}
 use Rattle.fpc_stream.specs.Stream.{tableF, tableD}
 use Rattle.fpc_stream.specs.Reading.{read}
 use Rattle.fpc_stream.specs.Outcome.{goodSize, goodTables, mostBytes}
 use Rattle.transfer_step.specs.declared.Transfer.{Transfer}
-use Rattle.transfer_step.specs.Machine.{Machine, Fed, damaged, opened, turned, silent, gives, damage, feed, whole}
-use Rattle.transfer_step.specs.Record.{machine, transfer, shut, heldBelow}
+use Rattle.transfer_step.specs.Machine.{Machine, Fed, damaged, opened, feed, whole}
+use Rattle.transfer_step.specs.Record.{transfer, shut}
 use Rattle.transfer.specs.Outcome.{Outcome, given, openOutcome, pieceOutcome, closeOutcome}
 use Rattle.transfer.specs.Session.{Part, Sent, taken, sent, session, closing}
-use Rattle.transfer_step.proofs.FeedLaws.{Lent, lent-feed, feed-append, feed-went, byte-damaged}
+use Rattle.transfer_step.proofs.FeedLaws.{Lent, lent-feed, feed-append, feed-went}
 use Rattle.transfer.proofs.WholeLaws.{feed-read}
 use Rattle.transfer_step.proofs.FitLaws.{Fit, fit-feed, fit-opened, fit-to, stays, feed-stays}
 
@@ -49,12 +49,14 @@ follows-is : (m : Machine) (s : Sent) → Follows m s → s ≡ sentOf m (s .str
 follows-is m s a = same (s .transfer) _ (s .f) _ (s .d) _ (s .stream) (s .doubles) _ (a .transfer-is) (a .f-is) (a .d-is) (a .doubles-are)
   where
     same : (t t′ : Transfer) (f f′ d d′ xs vs vs′ : List ℕ) → t ≡ t′ → f ≡ f′ → d ≡ d′ → vs ≡ vs′
-        → _≡_ {A = Sent} (record { transfer = t; f = f; d = d; stream = xs; doubles = vs }) (record { transfer = t′; f = f′; d = d′; stream = xs; doubles = vs′ })
+        → _≡_ {A = Sent} (record { transfer = t; f = f; d = d; stream = xs; doubles = vs })
+        (record { transfer = t′; f = f′; d = d′; stream = xs; doubles = vs′ })
     same t t′ f f′ d d′ xs vs vs′ et ef ed ev = rw (et, ef, ed, ev)
 
 -- one piece
 abbrev sentBy : Part → Outcome → Sent
-sentBy p o = record { transfer = o .transfer; f = o .f; d = o .d; stream = cond (taken o) (p .piece) []; doubles = cond (taken o) (take (o .count) (o .out)) [] }
+sentBy p o =
+    record { transfer = o .transfer; f = o .f; d = o .d; stream = cond (taken o) (p .piece) []; doubles = cond (taken o) (take (o .count) (o .out)) [] }
 
 -- `given`, by whether there was damage
 abbrev givenBy : Bool → List ℕ → Fed → Outcome
@@ -78,7 +80,8 @@ module _ (m : Machine) (q : Fit m) (l : Lent m) where
 
   -- the rows after 25 and 20
   laterRows : Part → Bool → Bool → Bool → Outcome
-  laterRows p a b c = cond a (refusedBy p 21 0) (cond b (refusedBy p 23 0) (cond c (refusedBy p 22 (2 * length (p .piece))) (given (p .room) (feed m (p .piece)))))
+  laterRows p a b c = cond a (refusedBy p 21 0)
+      (cond b (refusedBy p 23 0) (cond c (refusedBy p 22 (2 * length (p .piece))) (given (p .room) (feed m (p .piece)))))
 
   rows : (p : Part) → pieceOutcome (transfer m) (m .at .f) (m .at .d) (p .piece) (p .room)
       ≡ laterRows p (ltb mostBytes (length (p .piece))) (eqb (m .state) damaged) (ltb (length (p .room)) (2 * length (p .piece)))
@@ -124,7 +127,8 @@ follows-on m x r a b =
     }
 
 -- the pieces to come, from a record and tables that are those of the machine m
-sent-from : (m : Machine) (ps : List Part) → (AllBelow 256 (sent (transfer m) (m .at .f) (m .at .d) ps .stream) → Follows m (sent (transfer m) (m .at .f) (m .at .d) ps))
+sent-from : (m : Machine) (ps : List Part)
+    → (AllBelow 256 (sent (transfer m) (m .at .f) (m .at .d) ps .stream) → Follows m (sent (transfer m) (m .at .f) (m .at .d) ps))
     → (t : Transfer) (f d : List ℕ) → t ≡ transfer m → f ≡ m .at .f → d ≡ m .at .d → AllBelow 256 (sent t f d ps .stream) → Follows m (sent t f d ps)
 sent-from m ps ih t f d et ef ed h = rw (et, ef, ed) (ih (rw (et, ef, ed) at h))
 
@@ -140,7 +144,8 @@ sent-follows (p ∷ ps) m q l h =
     let m′ = feed m xs .to in
     let q′ = fit-feed m xs (below-left 256 xs (r .stream) h (lit< tt)) q in
     follows-on m (sentBy p o) r x
-    (sent-from m′ ps (sent-follows ps m′ q′ (lent-feed m xs l)) (o .transfer) (o .f) (o .d) (x .transfer-is) (x .f-is) (x .d-is) (below-right 256 xs (r .stream) h))
+    (sent-from m′ ps (sent-follows ps m′ q′ (lent-feed m xs l)) (o .transfer) (o .f) (o .d) (x .transfer-is) (x .f-is) (x .d-is)
+    (below-right 256 xs (r .stream) h))
 
 module _ (f d : List ℕ) (good : goodTables f d ≡ true) (ps : List Part) (bytes : AllBelow 256 (session f d ps .stream)) where
   same : length d ≡ length f
@@ -160,7 +165,8 @@ module _ (f d : List ℕ) (good : goodTables f d ≡ true) (ps : List Part) (byt
   -- an opened transfer and its pieces do what the bytes of their stream do, however they are cut
   pub session-follows : Follows (opened (length f)) (session f d ps)
   unfolding session openOutcome
-  session-follows = rw good (sent-follows ps (opened (length f)) (fit-opened (length f) good-size) (length-replicate _ _, length-replicate _ _) (rw good at bytes))
+  session-follows = rw good
+      (sent-follows ps (opened (length f)) (fit-opened (length f) good-size) (length-replicate _ _, length-replicate _ _) (rw good at bytes))
 
   -- the close gives 0 and the number of doubles exactly when the whole-stream reader accepts; else 23 and 0
   pub session-closes : closeOutcome (session f d ps .transfer) ≡ closing (read (length f) (session f d ps .stream))

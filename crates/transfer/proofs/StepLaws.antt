@@ -37,7 +37,8 @@ module _ (f d hb : ℕ) where
   -- all bytes are held
   pub step-complete : (held bytes : List ℕ) → length held ≡ remainingCount (hb % 8)
       → stepOf f d hb (held ++ bytes)
-      ≡ cond (eqb (halfByte f d (bitXor (fromBytes held) (prediction f d (hb / 8)))) hb) (some (record { double = bitXor (fromBytes held) (prediction f d (hb / 8)); next = length held })) none
+      ≡ cond (eqb (halfByte f d (bitXor (fromBytes held) (prediction f d (hb / 8)))) hb)
+      (some (record { double = bitXor (fromBytes held) (prediction f d (hb / 8)); next = length held })) none
   unfolding stepOf coded decoded
   step-complete held bytes e =
       let l : remainingCount (hb % 8) ≤ length (held ++ bytes) = omega (arith, length-append held bytes) in

@@ -11,10 +11,11 @@ use lib.ListN.{length, drop, length-append}
 use lib.Seq.{drop-at, append-snoc}
 use borrow.Author.Tests.{eqb-true, eqb-false, eq-eqb, ne-eqb}
 use Rattle.fpc_stream.specs.Bytes.{fromBytes}
-use Rattle.fpc_stream.specs.Predictors.{Predictors, startPredictors, fcm, dfcm, prediction, update, after}
+use Rattle.fpc_stream.specs.Predictors.{Predictors, startPredictors, fcm, dfcm, prediction, update}
 use Rattle.fpc_stream.specs.Stream.{remainingCount, oddHalf, oddByte}
 use Rattle.fpc_stream.specs.Reading.{Found, stepOf, oddEnd, andThen, readPairs, mostDoubles, read}
-use Rattle.transfer_step.specs.Machine.{Machine, Fed, atPair, inFirst, inSecond, ended, damaged, opened, turned, holding, silent, gives, damage, complete, goesOut, judgement, judged, odd, second, first, feedByte, feed, whole, accepted}
+use Rattle.transfer_step.specs.Machine.{Machine, Fed, atPair, inFirst, inSecond, ended, damaged, opened, turned, holding, silent, gives}
+use Rattle.transfer_step.specs.Machine.{goesOut, judgement, judged, odd, second, first, feedByte, feed, whole, accepted}
 use Rattle.transfer.proofs.StepLaws.{from-snoc, step-short, step-complete, odd-none}
 
 abbrev pub machineAt : ℕ → Predictors → ℕ → ℕ → ℕ → List ℕ → Machine
@@ -54,7 +55,8 @@ pair-then size k s b bytes = first-of (stepOf (fcm s) (dfcm s) (b / 16) bytes)
     second-of x false none more = refl
     second-of x false (some y) more = both x (y .double) (more y)
 
-    first-of : (o : Option Found) → andThen o (λ x. Option·map (λ vs. x .double ∷ vs) (secondThen size k (update size s (x .double)) (b % 16) (drop (x .next) bytes)))
+    first-of : (o : Option Found)
+        → andThen o (λ x. Option·map (λ vs. x .double ∷ vs) (secondThen size k (update size s (x .double)) (b % 16) (drop (x .next) bytes)))
         ≡ andThen o (λ x.
         let s′ = update size s (x .double) in
         let bytes′ = drop (x .next) bytes in
@@ -65,7 +67,8 @@ pair-then size k s b bytes = first-of (stepOf (fcm s) (dfcm s) (b / 16) bytes)
     first-of (some x) =
         let s′ = update size s (x .double) in
         let bytes′ = drop (x .next) bytes in
-        second-of (x .double) (oddEnd (b % 16) bytes′) (stepOf (fcm s′) (dfcm s′) (b % 16) bytes′) (λ y. readPairs size k (update size s′ (y .double)) (drop (y .next) bytes′))
+        second-of (x .double) (oddEnd (b % 16) bytes′) (stepOf (fcm s′) (dfcm s′) (b % 16) bytes′)
+        (λ y. readPairs size k (update size s′ (y .double)) (drop (y .next) bytes′))
 
 -- nothing comes after the odd end
 abbrev nothing : List ℕ → Option (List ℕ)
@@ -102,10 +105,12 @@ module _ (size : ℕ) (s : Predictors) (n p : ℕ) (held : List ℕ) (hb state n
       → ((v : ℕ) → Going size (more (update size s v)) (on (machineAt size (update size s v) next (n + 1) p [])))
       → Going size (λ bytes. doubleThen size s hb (held ++ bytes) more) (judged (machineAt size s state n p held) hb next on)
   unfolding judged judgement
-  going-judged on more h = go (bitXor (fromBytes held) (prediction (fcm s) (dfcm s) (hb / 8))) (eqb _ hb) (λ bytes. step-complete (fcm s) (dfcm s) hb held bytes full)
+  going-judged on more h = go (bitXor (fromBytes held) (prediction (fcm s) (dfcm s) (hb / 8))) (eqb _ hb)
+      (λ bytes. step-complete (fcm s) (dfcm s) hb held bytes full)
     where
       go : (v : ℕ) (b : Bool) → ((bytes : List ℕ) → stepOf (fcm s) (dfcm s) hb (held ++ bytes) ≡ cond b (some (record { double = v; next = length held })) none)
-          → Going size (λ bytes. doubleThen size s hb (held ++ bytes) more) (goesOut (machineAt size s state n p held) next on (cond b (some (record { double = v; next = length held })) none))
+          → Going size (λ bytes. doubleThen size s hb (held ++ bytes) more)
+          (goesOut (machineAt size s state n p held) next on (cond b (some (record { double = v; next = length held })) none))
       go v true e =
           let g = h v in
           let r = on (machineAt size (update size s v) next (n + 1) p []) in
@@ -133,7 +138,8 @@ and-false true = refl
 and-false false = refl
 
 -- in the second place a double's bytes are all held, and they are not the odd end, whatever comes
-no-odd : (lo : ℕ) (held bytes : List ℕ) → length held ≡ remainingCount (lo % 8) → (eqb lo oddHalf && eqb (fromBytes held) oddByte) ≡ false → oddEnd lo (held ++ bytes) ≡ false
+no-odd : (lo : ℕ) (held bytes : List ℕ) → length held ≡ remainingCount (lo % 8) → (eqb lo oddHalf && eqb (fromBytes held) oddByte) ≡ false
+    → oddEnd lo (held ++ bytes) ≡ false
 no-odd lo held bytes full e = go (eqb lo oddHalf) refl
   where
     go : (b : Bool) → eqb lo oddHalf ≡ b → oddEnd lo (held ++ bytes) ≡ false
@@ -145,7 +151,8 @@ no-odd lo held bytes full e = go (eqb lo oddHalf) refl
         ap (λ (l : List ℕ). oddEnd lo (l ++ bytes)) one ∙ rw other (and-false (eqb lo oddHalf && eqb (length (fromBytes held ∷ bytes)) 1))
 
 -- they are the odd end: a stream ends there
-is-odd : (size k : ℕ) (s : Predictors) (lo : ℕ) (held : List ℕ) → length held ≡ remainingCount (lo % 8) → (eqb lo oddHalf && eqb (fromBytes held) oddByte) ≡ true
+is-odd : (size k : ℕ) (s : Predictors) (lo : ℕ) (held : List ℕ) → length held ≡ remainingCount (lo % 8) → (eqb lo oddHalf && eqb (fromBytes held) oddByte)
+    ≡ true
     → (bytes : List ℕ) → nothing bytes ≡ secondThen size k s lo (held ++ bytes)
 is-odd size k s lo held full e bytes =
     let t = and-eq-true-iff (eqb lo oddHalf) (eqb (fromBytes held) oddByte) .0 e in
@@ -156,7 +163,12 @@ is-odd size k s lo held full e bytes =
   where
     go : (bytes : List ℕ) → nothing bytes ≡ secondThen size k s oddHalf (oddByte ∷ bytes)
     go [] = refl
-    go (b ∷ bytes) = rw (ne-eqb (length (oddByte ∷ b ∷ bytes)) 1 (λ q. omega arith), step-complete (fcm s) (dfcm s) oddHalf (oddByte ∷ []) (b ∷ bytes) refl, odd-none (fcm s) (dfcm s))
+    go (b ∷ bytes) = rw (
+      ne-eqb (length (oddByte ∷ b ∷ bytes)) 1 (λ q. omega arith),
+      step-complete (fcm s) (dfcm s) oddHalf (oddByte ∷ []) (b ∷ bytes) refl,
+      odd-none (fcm s)
+          (dfcm s),
+    )
 
 module _ (size k : ℕ) (s : Predictors) (n p : ℕ) (held : List ℕ) where
   going-second : n + 1 + 2 * k ≡ mostDoubles → length held ≤ remainingCount (p % 16 % 8)
@@ -166,13 +178,15 @@ module _ (size k : ℕ) (s : Predictors) (n p : ℕ) (held : List ℕ) where
     where
       go : (b c : Bool) → eqb (length held) (remainingCount (p % 16 % 8)) ≡ b → (eqb (p % 16) oddHalf && eqb (fromBytes held) oddByte) ≡ c
           → Going size (λ bytes. secondThen size k s (p % 16) (held ++ bytes))
-          (cond b (cond c (silent (turned (machineAt size s inSecond n p held) ended)) (judged (machineAt size s inSecond n p held) (p % 16) atPair silent)) (silent (machineAt size s inSecond n p held)))
+          (cond b (cond c (silent (turned (machineAt size s inSecond n p held) ended)) (judged (machineAt size s inSecond n p held) (p % 16) atPair silent))
+          (silent (machineAt size s inSecond n p held)))
       go true true eb ec =
           let full = eqb-true _ _ eb in
           record { then = nothing; left = after-end s n p; same = λ bytes. map-nil (nothing bytes) ∙ is-odd size k s (p % 16) held full ec bytes }
       go true false eb ec =
           let full = eqb-true _ _ eb in
-          let g = going-judged size s n p held (p % 16) inSecond atPair full silent (readPairs size k) (λ v. still-in size _ _ (at-pair k (update size s v) (n + 1) p e)) in
+          let g = going-judged size s n p held (p % 16) inSecond atPair full silent (readPairs size k)
+          (λ v. still-in size _ _ (at-pair k (update size s v) (n + 1) p e)) in
           record { then = g .then; left = g .left; same = λ bytes. g .same bytes ∙ rw (no-odd (p % 16) held bytes full ec) }
       go false c eb ec = still-in size _ _ (in-second k s n p held e (omega (arith, eqb-false (length held) (remainingCount (p % 16 % 8)) eb)))
 
@@ -191,7 +205,8 @@ module _ (size k : ℕ) (s : Predictors) (n p : ℕ) (held : List ℕ) where
       go false eb = still-in size _ _ (in-first k s n p held e (omega (arith, eqb-false (length held) (remainingCount (p / 16 % 8)) eb)))
 
 -- one byte more is held
-pub held-more : (size : ℕ) (s : Predictors) (state n p : ℕ) (held : List ℕ) (b : ℕ) → machineAt size s state n p (held ++ b ∷ []) ≡ holding (machineAt size s state n p held) b
+pub held-more : (size : ℕ) (s : Predictors) (state n p : ℕ) (held : List ℕ) (b : ℕ) → machineAt size s state n p (held ++ b ∷ [])
+    ≡ holding (machineAt size s state n p held) b
 held-more size s state n p held b = rw (length-append held (b ∷ []), from-snoc held b)
 
 snoc-le : (held : List ℕ) (b n : ℕ) → length held < n → length (held ++ b ∷ []) ≤ n
@@ -215,7 +230,8 @@ module _ (size k : ℕ) (s : Predictors) (n p : ℕ) (held : List ℕ) (b : ℕ)
 
 going-byte : (size : ℕ) (m : Machine) (more : List ℕ → Option (List ℕ)) → Left size m more → (b : ℕ) → Going size (λ bytes. more (b ∷ bytes)) (feedByte m b)
 unfolding feedByte
-going-byte size m more (at-pair zero s n p e) b = rw (eq-eqb n mostDoubles (omega arith)) (record { then = λ bytes. none; left = after-damage s n p; same = λ bytes. refl })
+going-byte size m more (at-pair zero s n p e) b = rw (eq-eqb n mostDoubles (omega arith))
+    (record { then = λ bytes. none; left = after-damage s n p; same = λ bytes. refl })
 going-byte size m more (at-pair (suc k) s n p e) b =
     let g = going-first size k s n b [] (omega arith) (omega arith) in
     rw (ne-eqb n mostDoubles (λ q. omega arith)) (record { then = g .then; left = g .left; same = λ bytes. g .same bytes ∙ pair-then size k s b bytes })
@@ -262,4 +278,5 @@ feed-left size (b ∷ bytes) m more l =
 -- an opened transfer, fed with bytes, is whole exactly where the whole-stream reader accepts, and the doubles that went out are that reader's
 pub feed-read : (size : ℕ) (bytes : List ℕ) → accepted (feed (opened size) bytes) ≡ read size bytes
 unfolding read
-feed-read size bytes = feed-left size bytes (opened size) (readPairs size (mostDoubles / 2) (startPredictors size)) (at-pair (mostDoubles / 2) (startPredictors size) 0 0 refl)
+feed-read size bytes = feed-left size bytes (opened size) (readPairs size (mostDoubles / 2) (startPredictors size))
+    (at-pair (mostDoubles / 2) (startPredictors size) 0 0 refl)

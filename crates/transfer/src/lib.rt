@@ -52,7 +52,9 @@ fn reply_with(t: Transfer, answer: u32, count: u32) -> Answered
 
 // An opening.
 pub fn open(f: &mut [u64], d: &mut [u64]) -> Answered
-    ensures { λ r. ⌜ called (r .reply) (r .transfer) [] (now (f .exit)) (now (d .exit)) ≡ openOutcome (now (f .entry)) (now (d .entry)) ⌝ }
+    ensures { λ r. ⌜
+        called (r .reply) (r .transfer) [] (now (f .exit)) (now (d .exit))
+        ≡ openOutcome (now (f .entry)) (now (d .entry)) ⌝ }
 {
     if !good_lengths(f.len(), d.len()) {
         return reply_with(SHUT, 20, 0);
@@ -95,7 +97,9 @@ pub fn close(t: Transfer) -> Answered
 
 // A piece.
 pub fn piece(t: Transfer, f: &mut [u64], d: &mut [u64], piece: &[u8], out: &mut [u64]) -> Answered
-    ensures { λ r. ⌜ called (r .reply) (r .transfer) (now (out .exit)) (now (f .exit)) (now (d .exit)) ≡ pieceOutcome t (now (f .entry)) (now (d .entry)) (now (piece .entry)) (now (out .entry)) ⌝ }
+    ensures { λ r. ⌜
+        called (r .reply) (r .transfer) (now (out .exit)) (now (f .exit)) (now (d .exit))
+        ≡ pieceOutcome t (now (f .entry)) (now (d .entry)) (now (piece .entry)) (now (out .entry)) ⌝ }
 {
     if !fits(t) {
         return reply_with(t, 25, 0);

@@ -22,17 +22,20 @@ use Rattle.fpc_step.proofs.WriteLaws.{same-size, within-next}
 use Rattle.transfer_step.proofs.FitLaws.{Fit, Counted, at-pair, in-first, in-second, after-end, after-damage, fit-of}
 use Rattle.transfer_step.specs.declared.Transfer.{Transfer}
 use Rattle.transfer_step.specs.declared.Taken.{Taken}
-use Rattle.transfer_step.specs.Machine.{Machine, Fed, atPair, inSecond, inFirst, ended, turned, begun, holding, past, silent, gives, damage, complete, judgement, goesOut, judged, odd, second, first}
+use Rattle.transfer_step.specs.Machine.{Machine, Fed, atPair, inSecond, inFirst, ended, turned, begun, holding, past, silent, gives, damage}
+use Rattle.transfer_step.specs.Machine.{judgement, goesOut, judged, odd, second, first}
 use Rattle.transfer_step.specs.Record.{machine, transfer, heldBelow}
 use Rattle.transfer_step.specs.Calls.{placeOf, moved, Ready, Standing, Gave}
 
 -- nothing goes out
-pub gave-silent : (r : Fed) (out : List ℕ) (at : ℕ) (t : Transfer) (f d : List ℕ) → r ≡ silent (machine t f d) → Gave r out at (record { transfer = t; next = at }) out f d
+pub gave-silent : (r : Fed) (out : List ℕ) (at : ℕ) (t : Transfer) (f d : List ℕ) → r ≡ silent (machine t f d)
+    → Gave r out at (record { transfer = t; next = at }) out f d
 gave-silent r out at t f d e =
     subst (λ (x : Fed). Gave x out at (record { transfer = t; next = at }) out f d) (sym e) (record { to-is = refl; next-is = sym (add-zero at); put = refl })
 
 -- one double goes out, and then what the machine goes on with
-pub gave-one : (r q : Fed) (v : ℕ) (out : List ℕ) (at : ℕ) (k : Taken) (out₁ out′ f′ d′ : List ℕ) → r ≡ gives (v ∷ []) q → out₁ ≡ set out at v → Gave q out₁ (at + 1) k out′ f′ d′ → Gave r out at k out′ f′ d′
+pub gave-one : (r q : Fed) (v : ℕ) (out : List ℕ) (at : ℕ) (k : Taken) (out₁ out′ f′ d′ : List ℕ) → r ≡ gives (v ∷ []) q → out₁ ≡ set out at v
+    → Gave q out₁ (at + 1) k out′ f′ d′ → Gave r out at k out′ f′ d′
 gave-one r q v out at k out₁ out′ f′ d′ e eo g =
     let n : at + 1 ≡ suc at = add-one at in
     subst (λ (x : Fed). Gave x out at k out′ f′ d′) (sym e)
@@ -80,7 +83,8 @@ module _ (m : Machine) where
   first-judged h = rw (eq-eqb _ _ h)
 
 -- the record and the tables after a double
-pub past-is : (t : Transfer) (f d : List ℕ) (state v : ℕ) (p : Place) (f′ d′ : List ℕ) → t .size ≡ length f → predictors f′ d′ p ≡ update (length f) (predictors f d (placeOf t)) v
+pub past-is : (t : Transfer) (f d : List ℕ) (state v : ℕ) (p : Place) (f′ d′ : List ℕ) → t .size ≡ length f → predictors f′ d′ p
+    ≡ update (length f) (predictors f d (placeOf t)) v
     → machine (moved t state p) f′ d′ ≡ past (machine t f d) state v
 past-is t f d state v p f′ d′ es e =
     ap (λ (s : Predictors). record { size = t .size; at = s; state = state; given = t .given + 1; pair = t .pair; held = 0; value = 0 }) (e ∙ rw es)
@@ -90,7 +94,8 @@ pub gave-as : (r q : Fed) (out : List ℕ) (at : ℕ) (k : Taken) (out′ f′ d
 gave-as r q out at k out′ f′ d′ e g = subst (λ (x : Fed). Gave x out at k out′ f′ d′) (sym e) g
 
 -- after the first double of a pair one more can be counted
-pub ready-past : (t : Transfer) (f d : List ℕ) (at : ℕ) → Ready 2 t f d at → (v : ℕ) (p : Place) (f′ d′ : List ℕ) → predictors f′ d′ p ≡ update (length f) (predictors f d (placeOf t)) v
+pub ready-past : (t : Transfer) (f d : List ℕ) (at : ℕ) → Ready 2 t f d at → (v : ℕ) (p : Place) (f′ d′ : List ℕ) → predictors f′ d′ p
+    ≡ update (length f) (predictors f d (placeOf t)) v
     → (state : ℕ) (t′ : Transfer) → t′ ≡ moved t state p → Ready 1 t′ f′ d′ (at + 1)
 ready-past t f d at r v p f′ d′ e state t′ et =
     subst (λ (x : Transfer). Ready 1 x f′ d′ (at + 1)) (sym et)

@@ -10,7 +10,8 @@ use lib.ListN.{length, length-append, length-set}
 use borrow.Author.Tests.{eq-eqb, ne-eqb}
 use Rattle.fpc_stream.specs.Predictors.{Predictors, update, after}
 use Rattle.fpc_stream.specs.Reading.{Found, mostDoubles}
-use Rattle.transfer_step.specs.Machine.{Machine, Fed, atPair, inFirst, inSecond, ended, damaged, turned, begun, holding, past, silent, gives, damage, complete, judgement, goesOut, judged, odd, second, first, feedByte, feed}
+use Rattle.transfer_step.specs.Machine.{Machine, Fed, atPair, inFirst, inSecond, ended, damaged, turned, begun, holding, past, silent, gives, damage}
+use Rattle.transfer_step.specs.Machine.{complete, judgement, goesOut, judged, odd, second, first, feedByte, feed}
 
 -- two pieces, one after the other, are one piece
 pub feed-append : (m : Machine) (xs ys : List ℕ) → feed m (xs ++ ys) ≡ gives (feed m xs .doubles) (feed (feed m xs .to) ys)
@@ -56,7 +57,8 @@ module _ (m : Machine) where
       go none = turns (1 + k) m damaged
       go (some x) =
           let m′ = past m next (x .double) in
-          went-on 1 k m (record { to = m′; doubles = x .double ∷ [] }) (on m′) (record { size-is = refl; at-is = refl; given-is = refl; most = omega arith }) (h m′)
+          went-on 1 k m (record { to = m′; doubles = x .double ∷ [] }) (on m′) (record { size-is = refl; at-is = refl; given-is = refl; most = omega arith })
+          (h m′)
 
   second-went : Went 1 m (second m)
   unfolding second
@@ -91,7 +93,8 @@ byte-went m b = go (eqb (m .state) atPair) (eqb (m .given) mostDoubles) (eqb (m 
     go true true s t = turns 2 m damaged
     go true false s t = same (begun m b) (first (begun m b)) refl refl refl (first-went (begun m b))
     go false q true t = same (holding m b) (first (holding m b)) refl refl refl (first-went (holding m b))
-    go false q false true = same (holding m b) (second (holding m b)) refl refl refl (more-went (holding m b) (second (holding m b)) (second-went (holding m b)))
+    go false q false true = same (holding m b) (second (holding m b)) refl refl refl
+        (more-went (holding m b) (second (holding m b)) (second-went (holding m b)))
     go false q false false = turns 2 m damaged
 
 -- so room for twice the bytes suffices; the doubles are counted, and the predictors stand as after them
@@ -121,12 +124,6 @@ lent-feed m bytes (ef, ed) =
       ap (λ (s : Predictors). length (s .f)) (w .at-is) ∙ after-f (m .size) (m .at) vs ∙ ef ∙ sym (w .size-is),
       ap (λ (s : Predictors). length (s .d)) (w .at-is) ∙ after-d (m .size) (m .at) vs ∙ ed ∙ sym (w .size-is),
     )
-
--- a damaged transfer gives nothing more
-pub feed-damaged : (m : Machine) (bytes : List ℕ) → m .state ≡ damaged → (feed m bytes .doubles ≡ []) × (feed m bytes .to .state ≡ damaged)
-unfolding feedByte
-feed-damaged m [] e = (refl, e)
-feed-damaged m (b ∷ bytes) e = rw e (feed-damaged (turned m damaged) bytes refl)
 
 -- which case of a byte holds
 module _ (m : Machine) (b : ℕ) where

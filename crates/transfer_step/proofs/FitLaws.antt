@@ -16,7 +16,8 @@ use Rattle.fpc_stream.specs.Stream.{remainingCount}
 use Rattle.fpc_stream.specs.Reading.{Found, mostDoubles}
 use Rattle.fpc_stream.specs.Outcome.{goodSize}
 use Rattle.fpc_stream.proofs.Rows.{good-bounds}
-use Rattle.transfer_step.specs.Machine.{Machine, Fed, atPair, inFirst, inSecond, ended, damaged, opened, turned, begun, holding, past, silent, gives, damage, complete, judgement, goesOut, judged, odd, second, first, feedByte, feed}
+use Rattle.transfer_step.specs.Machine.{Machine, Fed, atPair, inFirst, inSecond, ended, damaged, opened, turned, begun, holding, past, silent, gives}
+use Rattle.transfer_step.specs.Machine.{complete, judgement, goesOut, judged, odd, second, first, feedByte, feed}
 use Rattle.transfer_step.proofs.FeedLaws.{byte-full, byte-pair, byte-first, byte-second, byte-ended, byte-damaged}
 use Rattle.transfer_step.specs.Record.{machine, transfer, heldBelow, givenFits, fit}
 
@@ -52,13 +53,15 @@ module _ (m : Machine) (z : Sized m) (byte : m .pair < 256) where
       go none = fit-damage l
       go (some x) = h (x .double)
 
-  fit-second : m .state ≡ inSecond → m .given % 2 ≡ 1 → m .given ≤ mostDoubles → m .held ≤ remainingCount (m .pair % 16 % 8) → m .value < 256 ^ m .held → Fit (second m .to)
+  fit-second : m .state ≡ inSecond → m .given % 2 ≡ 1 → m .given ≤ mostDoubles → m .held ≤ remainingCount (m .pair % 16 % 8) → m .value < 256 ^ m .held
+      → Fit (second m .to)
   unfolding second
   fit-second e o l s v = go (complete m (m .pair % 16)) (odd m) refl
     where
       go : (b c : Bool) → complete m (m .pair % 16) ≡ b → Fit (cond b (cond c (silent (turned m ended)) (judged m (m .pair % 16) atPair silent)) (silent m) .to)
       go true true q = (z, after-end (m .given) o l, byte, lit< tt, lit< tt)
-      go true false q = fit-judged (m .pair % 16) atPair silent l (λ w. (sized-past m atPair w z, at-pair (m .given + 1) (omega arith) (omega arith), byte, lit< tt, lit< tt))
+      go true false q = fit-judged (m .pair % 16) atPair silent l
+          (λ w. (sized-past m atPair w z, at-pair (m .given + 1) (omega arith) (omega arith), byte, lit< tt, lit< tt))
       go false c q = (
         z,
         subst (λ (x : ℕ). Counted x (m .given)) (sym e) (in-second (m .given) o l),
@@ -67,7 +70,8 @@ module _ (m : Machine) (z : Sized m) (byte : m .pair < 256) where
         v,
       )
 
-fit-first : (m : Machine) → Sized m → m .pair < 256 → m .state ≡ inFirst → m .given % 2 ≡ 0 → m .given < mostDoubles → m .held ≤ remainingCount (m .pair / 16 % 8) → m .value < 256 ^ m .held → Fit (first m .to)
+fit-first : (m : Machine) → Sized m → m .pair < 256 → m .state ≡ inFirst → m .given % 2 ≡ 0 → m .given < mostDoubles
+    → m .held ≤ remainingCount (m .pair / 16 % 8) → m .value < 256 ^ m .held → Fit (first m .to)
 unfolding first
 fit-first m z byte e o l s v = go (complete m (m .pair / 16)) refl
   where
@@ -105,9 +109,11 @@ fit-byte m b hb (z, c, byte, held, value) = go (m .state) (m .given) c refl refl
             let other = eqb-false (m .given) mostDoubles q in
             by _ (byte-pair m b e other) (fit-first (begun m b) z hb refl (omega arith) (omega arith) (omega arith) (lit< tt))
     go s n (in-first _ o l) e g =
-        by _ (byte-first m b e) (fit-first (holding m b) z byte e (omega arith) (omega arith) (omega (arith, short inFirst e)) (held-lt (m .value) b (m .held) value hb))
+        by _ (byte-first m b e)
+        (fit-first (holding m b) z byte e (omega arith) (omega arith) (omega (arith, short inFirst e)) (held-lt (m .value) b (m .held) value hb))
     go s n (in-second _ o l) e g =
-        by _ (byte-second m b e) (fit-second (holding m b) z byte e (omega arith) (omega arith) (omega (arith, short inSecond e)) (held-lt (m .value) b (m .held) value hb))
+        by _ (byte-second m b e)
+        (fit-second (holding m b) z byte e (omega arith) (omega arith) (omega (arith, short inSecond e)) (held-lt (m .value) b (m .held) value hb))
     go s n (after-end _ o l) e g = by _ (byte-ended m b e) (fit-damage m z byte (omega arith))
     go s n (after-damage _ l) e g = by _ (byte-damaged m b e) (fit-damage m z byte (omega arith))
 
@@ -133,13 +139,17 @@ counted-of s n e l = at₁ (eqb s atPair) refl e
     odd-part false true p q e = is ended q (after-end n (eqb-true _ _ e) l)
     odd-part false false p q e = is damaged e (after-damage n l)
 
-    at₂ : (a : Bool) → eqb s inFirst ≡ a → cond a (eqb (n % 2) 0 && not (eqb n mostDoubles)) (cond (eqb s inSecond || eqb s ended) (eqb (n % 2) 1) (eqb s damaged)) ≡ true → Counted s n
+    at₂ : (a : Bool) → eqb s inFirst ≡ a
+        → cond a (eqb (n % 2) 0 && not (eqb n mostDoubles)) (cond (eqb s inSecond || eqb s ended) (eqb (n % 2) 1) (eqb s damaged)) ≡ true → Counted s n
     at₂ true p e =
         let t = and-eq-true-iff (eqb (n % 2) 0) (not (eqb n mostDoubles)) .0 e in
         is inFirst p (in-first n (eqb-true _ _ (t .0)) (omega (arith, eqb-false n mostDoubles (not-true _ (t .1)))))
     at₂ false p e = odd-part (eqb s inSecond) (eqb s ended) refl refl e
 
-    at₁ : (a : Bool) → eqb s atPair ≡ a → cond a (eqb (n % 2) 0) (cond (eqb s inFirst) (eqb (n % 2) 0 && not (eqb n mostDoubles)) (cond (eqb s inSecond || eqb s ended) (eqb (n % 2) 1) (eqb s damaged))) ≡ true → Counted s n
+    at₁ : (a : Bool) → eqb s atPair ≡ a
+        → cond a (eqb (n % 2) 0)
+        (cond (eqb s inFirst) (eqb (n % 2) 0 && not (eqb n mostDoubles)) (cond (eqb s inSecond || eqb s ended) (eqb (n % 2) 1) (eqb s damaged))) ≡ true
+        → Counted s n
     at₁ true p e = is atPair p (at-pair n (eqb-true _ _ e) l)
     at₁ false p e = at₂ (eqb s inFirst) refl e
 
@@ -155,7 +165,8 @@ pub fit-to : (m : Machine) → Fit m → fit (transfer m) ≡ true
 unfolding fit
 fit-to m ((e, h, g), c, byte, held, value) =
     let k = counted-to (m .state) (m .given) c in
-    both (both (both (both (both (both (both e (lt-ltb _ _ h)) (lt-ltb _ _ g)) (le-leb _ _ (k .1))) (k .0)) (lt-ltb _ _ byte)) (lt-ltb _ _ held)) (lt-ltb _ _ value)
+    both (both (both (both (both (both (both e (lt-ltb _ _ h)) (lt-ltb _ _ g)) (le-leb _ _ (k .1))) (k .0)) (lt-ltb _ _ byte)) (lt-ltb _ _ held))
+    (lt-ltb _ _ value)
 
 pub fit-of : (t : Transfer) (f d : List ℕ) → fit t ≡ true → Fit (machine t f d)
 unfolding fit

@@ -16,7 +16,8 @@ use Rattle.transfer_step.proofs.FeedLaws.{byte-went, feed-went, feed-ap
 use Rattle.transfer_step.proofs.FitLaws.{fit-byte, fit-of, fit-to, stays, feed-stays}
 
 -- after one byte the record is fit again, and the tables have its size
-pub stands-byte : (t : Transfer) (f d : List ℕ) → Standing t f d → (b : ℕ) → b < 256 → (t′ : Transfer) (f′ d′ : List ℕ) → machine t′ f′ d′ ≡ feedByte (machine t f d) b .to → Standing t′ f′ d′
+pub stands-byte : (t : Transfer) (f d : List ℕ) → Standing t f d → (b : ℕ) → b < 256 → (t′ : Transfer) (f′ d′ : List ℕ) → machine t′ f′ d′
+    ≡ feedByte (machine t f d) b .to → Standing t′ f′ d′
 stands-byte t f d s b hb t′ f′ d′ e =
     let m = machine t f d in
     let l = lent-feed m (b ∷ []) (s .f-sized, s .d-sized) in
@@ -30,7 +31,8 @@ pub same-size : (t : Transfer) (f d : List ℕ) (b : ℕ) (t′ : Transfer) (f�
 same-size t f d b t′ f′ d′ e = ap (λ (x : Machine). x .size) e ∙ byte-went (machine t f d) b .size-is
 
 -- what was given before, and what a byte gave after it
-pub gave-more : (r q : Fed) (out₀ out out′ : List ℕ) (at : ℕ) (t : Transfer) (k : Taken) (f d f′ d′ : List ℕ) → Gave r out₀ 0 (record { transfer = t; next = at }) out f d → Gave q out at k out′ f′ d′
+pub gave-more : (r q : Fed) (out₀ out out′ : List ℕ) (at : ℕ) (t : Transfer) (k : Taken) (f d f′ d′ : List ℕ)
+    → Gave r out₀ 0 (record { transfer = t; next = at }) out f d → Gave q out at k out′ f′ d′
     → Gave (gives (r .doubles) q) out₀ 0 k out′ f′ d′
 gave-more r q out₀ out out′ at t k f d f′ d′ g h =
     let n : at ≡ 0 + length (r .doubles) = g .next-is in
@@ -58,14 +60,16 @@ module _ (t₀ : Transfer) (f₀ d₀ piece out₀ : List ℕ) (t : Transfer) (f
   pub soon : at ≤ 2 * i
   soon = omega (arith, w .gave .next-is, feed-went (machine t₀ f₀ d₀) (take i piece) .most, length-take-le i piece (w .inside))
 
-  pub feeding-next : i < length piece → getD piece i 0 < 256 → (k : Taken) (out′ f′ d′ : List ℕ) → Gave (feedByte (machine t f d) (getD piece i 0)) out at k out′ f′ d′
+  pub feeding-next : i < length piece → getD piece i 0 < 256 → (k : Taken) (out′ f′ d′ : List ℕ)
+      → Gave (feedByte (machine t f d) (getD piece i 0)) out at k out′ f′ d′
       → Feeding t₀ f₀ d₀ piece out₀ (k .transfer) f′ d′ out′ (k .next) (i + 1)
   feeding-next h hb k out′ f′ d′ g =
       let b = getD piece i 0 in
       let r = feed (machine t₀ f₀ d₀) (take i piece) in
       let e : take (i + 1) piece ≡ take i piece ++ b ∷ [] = rw (add-one i, take-suc piece i 0 h) in
       let all : feed (machine t₀ f₀ d₀) (take (i + 1) piece) ≡ gives (r .doubles) (feedByte (machine t f d) b)
-      = ap (feed (machine t₀ f₀ d₀)) e ∙ feed-snoc (machine t₀ f₀ d₀) (take i piece) b ∙ ap (λ (x : Machine). gives (r .doubles) (feedByte x b)) (sym (w .gave .to-is)) in
+      = ap (feed (machine t₀ f₀ d₀)) e ∙ feed-snoc (machine t₀ f₀ d₀) (take i piece) b
+      ∙ ap (λ (x : Machine). gives (r .doubles) (feedByte x b)) (sym (w .gave .to-is)) in
       let s = stands-byte t f d (w .stands) b hb (k .transfer) f′ d′ (g .to-is) in
       let z = same-size t f d b (k .transfer) f′ d′ (g .to-is) in
       record {
@@ -83,7 +87,8 @@ module _ (t₀ : Transfer) (f₀ d₀ piece out₀ : List ℕ) (t : Transfer) (f
       let m = machine t f d in
       let r = feed (machine t₀ f₀ d₀) (take i piece) in
       let stop : feed (r .to) (drop i piece) ≡ silent (r .to)
-      = subst (λ (x : Machine). feed x (drop i piece) ≡ silent x) (w .gave .to-is) (feed-stays m (drop i piece) (stays m (fit-of t f d (w .stands .fits)) e) e) in
+      = subst (λ (x : Machine). feed x (drop i piece) ≡ silent x) (w .gave .to-is)
+      (feed-stays m (drop i piece) (stays m (fit-of t f d (w .stands .fits)) e) e) in
       let all : feed (machine t₀ f₀ d₀) piece ≡ r
       = ap (feed (machine t₀ f₀ d₀)) (sym (take-append-drop i piece)) ∙ feed-append (machine t₀ f₀ d₀) (take i piece) (drop i piece)
       ∙ ap (gives (r .doubles)) stop ∙ rw (append-nil (r .doubles)) in

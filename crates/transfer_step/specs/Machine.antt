@@ -57,7 +57,8 @@ begun m b = record { size = m .size; at = m .at; state = inFirst; given = m .giv
 
 -- b is one more byte of the double in hand, lowest byte first
 abbrev pub holding : Machine → ℕ → Machine
-holding m b = record { size = m .size; at = m .at; state = m .state; given = m .given; pair = m .pair; held = m .held + 1; value = m .value + b * 256 ^ m .held }
+holding m b =
+    record { size = m .size; at = m .at; state = m .state; given = m .given; pair = m .pair; held = m .held + 1; value = m .value + b * 256 ^ m .held }
 
 -- the double v went out
 abbrev pub past : Machine → ℕ → ℕ → Machine

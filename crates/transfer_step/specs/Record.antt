@@ -51,7 +51,8 @@ givenFits state given =
     (cond (eqb state inFirst) (eqb (given % 2) 0 && not (eqb given mostDoubles))
     (cond (eqb state inSecond || eqb state ended) (eqb (given % 2) 1) (eqb state damaged)))
 
--- which records count as open: all that openings and pieces make (`FitLaws.fit-opened`, `fit-feed`), and no others but such as could stand for one; the rest are closed
+-- which records count as open: those whose numbers are in range and go together. All that an opening and pieces make are such (`FitLaws.fit-opened`,
+-- `fit-feed`); any other counts as closed
 unfoldable pub fit : Transfer → Bool
 unfolding goodSize
 fit t =

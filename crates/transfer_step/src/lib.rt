@@ -9,7 +9,7 @@ use fpc_stream::code::chosen;
 use fpc_stream::code::half_of;
 use fpc_stream::code::remaining_count;
 ghost use mathlib.Core.Path.{_≡_};
-ghost use Prim.Native.Nat.{_+_, _^_, _%_, _≤_, _<_};
+ghost use Prim.Native.Nat.{_^_, _%_, _≤_, _<_};
 ghost use mathlib.Core.List.{[]};
 ghost use lib.ListN.{length};
 ghost use Rattle.fpc_stream.specs.Stream.{remainingCount};
@@ -164,7 +164,9 @@ fn judge(f: &[u64], d: &[u64], t: Transfer, half: u32) -> Step
 // In the second double of a pair.
 fn in_second(t: Transfer, f: &mut [u64], d: &mut [u64], out: &mut [u64], at: usize) -> Taken
     requires { ⌜ Ready 1 t (now f) (now d) at ⌝ }
-    ensures { λ r. ⌜ Gave (second (machine t (now (f .entry)) (now (d .entry)))) (now (out .entry)) at r (now (out .exit)) (now (f .exit)) (now (d .exit)) ⌝ }
+    ensures { λ r. ⌜
+        Gave (second (machine t (now (f .entry)) (now (d .entry))))
+        (now (out .entry)) at r (now (out .exit)) (now (f .exit)) (now (d .exit)) ⌝ }
 {
     let low = t.pair % 16;
     if t.held != needed(low) {
@@ -196,7 +198,9 @@ fn in_second(t: Transfer, f: &mut [u64], d: &mut [u64], out: &mut [u64], at: usi
 // In the first double of a pair.
 fn in_first(t: Transfer, f: &mut [u64], d: &mut [u64], out: &mut [u64], at: usize) -> Taken
     requires { ⌜ Ready 2 t (now f) (now d) at ⌝ }
-    ensures { λ r. ⌜ Gave (first (machine t (now (f .entry)) (now (d .entry)))) (now (out .entry)) at r (now (out .exit)) (now (f .exit)) (now (d .exit)) ⌝ }
+    ensures { λ r. ⌜
+        Gave (first (machine t (now (f .entry)) (now (d .entry))))
+        (now (out .entry)) at r (now (out .exit)) (now (f .exit)) (now (d .exit)) ⌝ }
 {
     let high = t.pair / 16;
     if t.held != needed(high) {
@@ -219,7 +223,9 @@ fn in_first(t: Transfer, f: &mut [u64], d: &mut [u64], out: &mut [u64], at: usiz
 // One byte more.
 fn fed_byte(t: Transfer, f: &mut [u64], d: &mut [u64], b: u8, out: &mut [u64], at: usize) -> Taken
     requires { ⌜ Standing t (now f) (now d) × (at ≤ 2 ^ 19) ⌝ }
-    ensures { λ r. ⌜ Gave (feedByte (machine t (now (f .entry)) (now (d .entry))) b) (now (out .entry)) at r (now (out .exit)) (now (f .exit)) (now (d .exit)) ⌝ }
+    ensures { λ r. ⌜
+        Gave (feedByte (machine t (now (f .entry)) (now (d .entry))) b)
+        (now (out .entry)) at r (now (out .exit)) (now (f .exit)) (now (d .exit)) ⌝ }
 {
     if t.state == 1 {
         if t.given == 4096 {
@@ -245,7 +251,9 @@ fn fed_byte(t: Transfer, f: &mut [u64], d: &mut [u64], b: u8, out: &mut [u64], a
 // The bytes of a piece, one after the other, up to damage; the doubles from the start of the output on.
 pub fn fed(t: Transfer, f: &mut [u64], d: &mut [u64], piece: &[u8], out: &mut [u64]) -> Taken
     requires { ⌜ Standing t (now f) (now d) × (length (now piece) ≤ 65536) ⌝ }
-    ensures { λ r. ⌜ Gave (feed (machine t (now (f .entry)) (now (d .entry))) (now (piece .entry))) (now (out .entry)) 0 r (now (out .exit)) (now (f .exit)) (now (d .exit)) ⌝ }
+    ensures { λ r. ⌜
+        Gave (feed (machine t (now (f .entry)) (now (d .entry))) (now (piece .entry)))
+        (now (out .entry)) 0 r (now (out .exit)) (now (f .exit)) (now (d .exit)) ⌝ }
 {
     let mut s = t;
     let mut at = 0usize;

@@ -13,7 +13,8 @@ reply-with-requires : tie.Need-reply-with-requires
 reply-with-requires c κs = search needs
 
 returns : tie.Need-returns
-returns c = let g = c .before .before in let a = g .before .before .before .args in open-20 (a .f .now) (a .d .now) (c .reply-with .result) (sym (g .good-lengths .ensures) ∙ not-true _ (c .before .if1 .taken)) (c .reply-with .ensures)
+returns c = let g = c .before .before in let a = g .before .before .before .args in open-20 (a .f .now) (a .d .now) (c .reply-with .result)
+    (sym (g .good-lengths .ensures) ∙ not-true _ (c .before .if1 .taken)) (c .reply-with .ensures)
 
 clear-requires : tie.Need-clear-requires
 clear-requires c κs = search needs
@@ -37,7 +38,8 @@ returns-2 c =
     let e = x .before .before in
     let g = e .before in
     let a = g .before .before .before .args in
-    open-done (a .f .now) (a .d .now) (c .reply-with2 .result) (sym (g .good-lengths .ensures) ∙ not-false _ (e .if1 .left)) (x .clear .last .0) (y .clear2 .last .0) (x .clear .ensures) (y .clear2 .ensures) (c .reply-with2 .ensures)
+    open-done (a .f .now) (a .d .now) (c .reply-with2 .result) (sym (g .good-lengths .ensures) ∙ not-false _ (e .if1 .left)) (x .clear .last .0)
+    (y .clear2 .last .0) (x .clear .ensures) (y .clear2 .ensures) (c .reply-with2 .ensures)
 
 pub open-spec : {M : Type 1} → statement M
 open-spec =

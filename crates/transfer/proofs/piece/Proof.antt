@@ -29,7 +29,8 @@ returns : tie.Need-returns
 returns c =
     let f = c .before .before in
     let a = entry f .args in
-    piece-25 (a .t) (a .f .now) (a .d .now) (a .piece .now) (a .out .now) (c .reply-with .result) (sym (f .fits2 .ensures) ∙ not-true _ (c .before .if1 .taken)) (c .reply-with .ensures)
+    piece-25 (a .t) (a .f .now) (a .d .now) (a .piece .now) (a .out .now) (c .reply-with .result)
+    (sym (f .fits2 .ensures) ∙ not-true _ (c .before .if1 .taken)) (c .reply-with .ensures)
 
 good-lengths-requires : tie.Need-good-lengths-requires
 good-lengths-requires c κs = search needs
@@ -42,7 +43,9 @@ returns-2 c =
     let g = c .before .before in
     let f = g .before .before in
     let a = entry f .args in
-    piece-20 (a .t) (a .f .now) (a .d .now) (a .piece .now) (a .out .now) (c .reply-with2 .result) (sym (f .fits2 .ensures) ∙ not-false _ (g .before .if1 .left)) (sym (g .good-lengths .ensures) ∙ not-true _ (c .before .if2 .taken)) (c .reply-with2 .ensures)
+    piece-20 (a .t) (a .f .now) (a .d .now) (a .piece .now) (a .out .now) (c .reply-with2 .result)
+    (sym (f .fits2 .ensures) ∙ not-false _ (g .before .if1 .left)) (sym (g .good-lengths .ensures) ∙ not-true _ (c .before .if2 .taken))
+    (c .reply-with2 .ensures)
 
 reply-with-requires-3 : tie.Need-reply-with-requires-3
 reply-with-requires-3 c κs = search needs
@@ -52,7 +55,9 @@ returns-3 c =
     let g = c .before .before .before .before in
     let f = g .before .before in
     let a = entry f .args in
-    piece-other (a .t) (a .f .now) (a .d .now) (a .piece .now) (a .out .now) (c .reply-with3 .result) (sym (f .fits2 .ensures) ∙ not-false _ (g .before .if1 .left)) (sym (g .good-lengths .ensures) ∙ not-false _ (c .before .before .before .if2 .left)) (c .before .if3 .taken) (c .reply-with3 .ensures)
+    piece-other (a .t) (a .f .now) (a .d .now) (a .piece .now) (a .out .now) (c .reply-with3 .result)
+    (sym (f .fits2 .ensures) ∙ not-false _ (g .before .if1 .left)) (sym (g .good-lengths .ensures) ∙ not-false _ (c .before .before .before .if2 .left))
+    (c .before .if3 .taken) (c .reply-with3 .ensures)
 
 reply-with-requires-4 : tie.Need-reply-with-requires-4
 reply-with-requires-4 c κs = search needs
@@ -63,7 +68,9 @@ returns-4 c =
     let g = at-good e in
     let f = g .before .before in
     let a = entry f .args in
-    piece-21 (a .t) (a .f .now) (a .d .now) (a .piece .now) (a .out .now) (c .reply-with4 .result) (sym (f .fits2 .ensures) ∙ not-false _ (g .before .if1 .left)) (sym (g .good-lengths .ensures) ∙ not-false _ (e .before .before .if2 .left)) (e .if3 .left) (c .before .if4 .taken) (c .reply-with4 .ensures)
+    piece-21 (a .t) (a .f .now) (a .d .now) (a .piece .now) (a .out .now) (c .reply-with4 .result)
+    (sym (f .fits2 .ensures) ∙ not-false _ (g .before .if1 .left)) (sym (g .good-lengths .ensures) ∙ not-false _ (e .before .before .if2 .left))
+    (e .if3 .left) (c .before .if4 .taken) (c .reply-with4 .ensures)
 
 reply-with-requires-5 : tie.Need-reply-with-requires-5
 reply-with-requires-5 c κs = search needs
@@ -74,7 +81,9 @@ returns-5 c =
     let g = at-good e in
     let f = g .before .before in
     let a = entry f .args in
-    piece-23 (a .t) (a .f .now) (a .d .now) (a .piece .now) (a .out .now) (c .reply-with5 .result) (sym (f .fits2 .ensures) ∙ not-false _ (g .before .if1 .left)) (sym (g .good-lengths .ensures) ∙ not-false _ (e .before .before .if2 .left)) (e .if3 .left) (c .before .before .before .if4 .left) (c .before .if5 .taken) (c .reply-with5 .ensures)
+    piece-23 (a .t) (a .f .now) (a .d .now) (a .piece .now) (a .out .now) (c .reply-with5 .result)
+    (sym (f .fits2 .ensures) ∙ not-false _ (g .before .if1 .left)) (sym (g .good-lengths .ensures) ∙ not-false _ (e .before .before .if2 .left))
+    (e .if3 .left) (c .before .before .before .if4 .left) (c .before .if5 .taken) (c .reply-with5 .ensures)
 
 mul-n : tie.Need-mul-n
 mul-n c = search needs
@@ -91,7 +100,9 @@ returns-6 c =
     let g = at-good e in
     let f = g .before .before in
     let a = entry f .args in
-    piece-22 (a .t) (a .f .now) (a .d .now) (a .piece .now) (a .out .now) (c .reply-with6 .result) (sym (f .fits2 .ensures) ∙ not-false _ (g .before .if1 .left)) (sym (g .good-lengths .ensures) ∙ not-false _ (e .before .before .if2 .left)) (e .if3 .left) (c .before .before .before .before .if4 .left) (c .before .before .if5 .left) (c .before .if6 .taken) (c .reply-with6 .ensures)
+    piece-22 (a .t) (a .f .now) (a .d .now) (a .piece .now) (a .out .now) (c .reply-with6 .result)
+    (sym (f .fits2 .ensures) ∙ not-false _ (g .before .if1 .left)) (sym (g .good-lengths .ensures) ∙ not-false _ (e .before .before .if2 .left))
+    (e .if3 .left) (c .before .before .before .before .if4 .left) (c .before .before .if5 .left) (c .before .if6 .taken) (c .reply-with6 .ensures)
 
 fed-requires : tie.Need-fed-requires
 fed-requires c κs =
@@ -99,8 +110,11 @@ fed-requires c κs =
     let e = h .before in
     let g = at-good e in
     let f = g .before .before in
-    let a = entry f .args in
-    (stands (a .t) (a .f .now) (a .d .now) (sym (f .fits2 .ensures) ∙ not-false _ (g .before .if1 .left)) (sym (g .good-lengths .ensures) ∙ not-false _ (e .before .before .if2 .left)) (e .if3 .left), h .if4 .left)
+    let a = entry f .args in (
+      stands (a .t) (a .f .now) (a .d .now) (sym (f .fits2 .ensures) ∙ not-false _ (g .before .if1 .left))
+          (sym (g .good-lengths .ensures) ∙ not-false _ (e .before .before .if2 .left)) (e .if3 .left),
+      h .if4 .left,
+    )
 
 verdict-requires : tie.Need-verdict-requires
 verdict-requires c κs = search needs
@@ -134,7 +148,9 @@ returns-7 c =
     let g = at-good e in
     let f = g .before .before in
     let a = entry f .args in
-    piece-done (a .t) (a .f .now) (a .d .now) (a .piece .now) (a .out .now) (c .reply-with7 .result) (sym (f .fits2 .ensures) ∙ not-false _ (g .before .if1 .left)) (sym (g .good-lengths .ensures) ∙ not-false _ (e .before .before .if2 .left)) (e .if3 .left)
+    piece-done (a .t) (a .f .now) (a .d .now) (a .piece .now) (a .out .now) (c .reply-with7 .result)
+    (sym (f .fits2 .ensures) ∙ not-false _ (g .before .if1 .left)) (sym (g .good-lengths .ensures) ∙ not-false _ (e .before .before .if2 .left))
+    (e .if3 .left)
     (h .if4 .left)
     (x .before .if5 .left)
     (x .if6 .left)

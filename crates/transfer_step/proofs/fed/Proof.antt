@@ -54,7 +54,8 @@ loop-again c =
     let g = y .before .before in
     let t = g .before .before .before .before .before in
     let o = t .before .loop in
-    feeding-next _ _ _ _ _ _ _ _ _ _ _ (o .inv) (t .loop-test .taken) (g .shared-slice-known2 .given (o .i) .fits) (y .fed-byte .result) _ _ _ (y .fed-byte .ensures)
+    feeding-next _ _ _ _ _ _ _ _ _ _ _ (o .inv) (t .loop-test .taken) (g .shared-slice-known2 .given (o .i) .fits) (y .fed-byte .result) _ _ _
+    (y .fed-byte .ensures)
 
 same-length-4 : tie.Need-same-length-4 Inv-loop μ-loop
 same-length-4 c = c .before .loop .inv .f-room

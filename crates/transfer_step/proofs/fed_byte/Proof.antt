@@ -49,7 +49,8 @@ returns-2 c =
     let e = g .before .before .before in
     let a = entry (e .before) .args in
     let m = machine (a .t) (a .f .now) (a .d .now) in
-    gave-as (feedByte m (a .b)) _ (a .out .now) (a .at) (y .in-first .result) (y .in-first .last .1 .1 .1 .0) (y .in-first .last .1 .0) (y .in-first .last .1 .1 .0)
+    gave-as (feedByte m (a .b)) _ (a .out .now) (a .at) (y .in-first .result) (y .in-first .last .1 .1 .1 .0) (y .in-first .last .1 .0)
+    (y .in-first .last .1 .1 .0)
     (byte-pair m (a .b) (e .if1 .taken) (g .before .if2 .left) ∙ ap (λ (t : Transfer). first (machine t (a .f .now) (a .d .now))) (sym (g .begin .ensures)))
     (y .in-first .ensures)
 
@@ -82,7 +83,8 @@ returns-3 c =
     let e = g .before in
     let a = entry (e .before .before .before) .args in
     let m = machine (a .t) (a .f .now) (a .d .now) in
-    gave-as (feedByte m (a .b)) _ (a .out .now) (a .at) (y .in-first2 .result) (y .in-first2 .last .1 .1 .1 .0) (y .in-first2 .last .1 .0) (y .in-first2 .last .1 .1 .0)
+    gave-as (feedByte m (a .b)) _ (a .out .now) (a .at) (y .in-first2 .result) (y .in-first2 .last .1 .1 .1 .0) (y .in-first2 .last .1 .0)
+    (y .in-first2 .last .1 .1 .0)
     (byte-first m (a .b) (e .if3 .taken) ∙ ap (λ (t : Transfer). first (machine t (a .f .now) (a .d .now))) (sym (g .hold .ensures)))
     (y .in-first2 .ensures)
 
@@ -115,7 +117,8 @@ returns-4 c =
     let e = g .before in
     let a = entry (e .before .before .before .before .before) .args in
     let m = machine (a .t) (a .f .now) (a .d .now) in
-    gave-as (feedByte m (a .b)) _ (a .out .now) (a .at) (y .in-second .result) (y .in-second .last .1 .1 .1 .0) (y .in-second .last .1 .0) (y .in-second .last .1 .1 .0)
+    gave-as (feedByte m (a .b)) _ (a .out .now) (a .at) (y .in-second .result) (y .in-second .last .1 .1 .1 .0) (y .in-second .last .1 .0)
+    (y .in-second .last .1 .1 .0)
     (byte-second m (a .b) (e .if4 .taken) ∙ ap (λ (t : Transfer). second (machine t (a .f .now) (a .d .now))) (sym (g .hold2 .ensures)))
     (y .in-second .ensures)
 
@@ -130,7 +133,8 @@ returns-5 c =
     let a = entry (z .before) .args in
     let m = machine (a .t) (a .f .now) (a .d .now) in
     gave-silent (feedByte m (a .b)) (a .out .now) (a .at) (c .turn2 .result) (a .f .now) (a .d .now)
-    (byte-other m (a .b) (z .if1 .left) (x .if3 .left) (e .if4 .left) ∙ ap (λ (t : Transfer). silent (machine t (a .f .now) (a .d .now))) (sym (c .turn2 .ensures)))
+    (byte-other m (a .b) (z .if1 .left) (x .if3 .left) (e .if4 .left)
+    ∙ ap (λ (t : Transfer). silent (machine t (a .f .now) (a .d .now))) (sym (c .turn2 .ensures)))
 
 pub fed-byte-spec : {M : Type 1} → statement M
 fed-byte-spec =

@@ -26,14 +26,16 @@ mul-t6 : tie.Need-mul-t6
 mul-t6 c =
     let s = c .before .before .before in
     let t = s .args .t in
-    let l = sum-lt (t .value) (s .args .b) (t .held) (c .before .wide .result) (c .power .result) (s .pre .1) (omega arith) (s .pre .0) (c .before .wide .ensures) (c .power .ensures) in
+    let l = sum-lt (t .value) (s .args .b) (t .held) (c .before .wide .result) (c .power .result) (s .pre .1) (omega arith) (s .pre .0)
+    (c .before .wide .ensures) (c .power .ensures) in
     omega arith
 
 add-t7 : tie.Need-add-t7
 add-t7 c =
     let s = c .before .before .before .before in
     let t = s .args .t in
-    let l = sum-lt (t .value) (s .args .b) (t .held) (c .before .before .wide .result) (c .before .power .result) (s .pre .1) (omega arith) (s .pre .0) (c .before .before .wide .ensures) (c .before .power .ensures) in
+    let l = sum-lt (t .value) (s .args .b) (t .held) (c .before .before .wide .result) (c .before .power .result) (s .pre .1) (omega arith) (s .pre .0)
+    (c .before .before .wide .ensures) (c .before .power .ensures) in
     omega arith
 
 returns : tie.Need-returns

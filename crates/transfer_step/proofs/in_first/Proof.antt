@@ -86,7 +86,8 @@ in-second-requires c κs =
     let a = s .args in
     let v = k .v .given .0 .0 in
     let ep = w .advance .ensures ∙ ap (λ (p : Place). update (length (a .f .now)) (predictors (a .f .now) (a .d .now) p) v) (w .before .place-of .ensures) in
-    ready-past (a .t) (a .f .now) (a .d .now) (a .at) (s .pre) v (w .advance .result) (w .advance .last .0) (w .advance .last .1 .0) ep inSecond (x .pass .result) (x .pass .ensures)
+    ready-past (a .t) (a .f .now) (a .d .now) (a .at) (s .pre) v (w .advance .result) (w .advance .last .0) (w .advance .last .1 .0) ep inSecond
+    (x .pass .result) (x .pass .ensures)
 
 same-length-3 : tie.Need-same-length-3
 same-length-3 c = search needs
@@ -111,11 +112,15 @@ returns-3 c =
     let m = machine (a .t) (a .f .now) (a .d .now) in
     let v = k .v .given .0 .0 in
     let ep = w .advance .ensures ∙ ap (λ (p : Place). update (length (a .f .now)) (predictors (a .f .now) (a .d .now) p) v) (w .before .place-of .ensures) in
-    let em = ap (λ (t : Transfer). machine t (w .advance .last .0) (w .advance .last .1 .0)) (x .pass .ensures) ∙ past-is (a .t) (a .f .now) (a .d .now) inSecond v (w .advance .result) (w .advance .last .0) (w .advance .last .1 .0) (s .pre .sized) ep in
-    gave-one (first m) (second (past m inSecond v)) v (a .out .now) (a .at) (y .in-second .result) (u .put-double .last .0) (y .in-second .last .1 .1 .1 .0) (y .in-second .last .1 .0) (y .in-second .last .1 .1 .0)
-    (first-judged m (e .if1 .left ∙ e .before .before .needed .ensures) ∙ judged-double m (a .t .pair / 16) inSecond second (j .judge .result) (j .judge .ensures) v (k .v .given .0 .1 .0) (k .v .given .1))
+    let em = ap (λ (t : Transfer). machine t (w .advance .last .0) (w .advance .last .1 .0)) (x .pass .ensures)
+    ∙ past-is (a .t) (a .f .now) (a .d .now) inSecond v (w .advance .result) (w .advance .last .0) (w .advance .last .1 .0) (s .pre .sized) ep in
+    gave-one (first m) (second (past m inSecond v)) v (a .out .now) (a .at) (y .in-second .result) (u .put-double .last .0) (y .in-second .last .1 .1 .1 .0)
+    (y .in-second .last .1 .0) (y .in-second .last .1 .1 .0)
+    (first-judged m (e .if1 .left ∙ e .before .before .needed .ensures)
+    ∙ judged-double m (a .t .pair / 16) inSecond second (j .judge .result) (j .judge .ensures) v (k .v .given .0 .1 .0) (k .v .given .1))
     (u .put-double .ensures)
-    (gave-as (second (past m inSecond v)) _ (u .put-double .last .0) (a .at + 1) (y .in-second .result) (y .in-second .last .1 .1 .1 .0) (y .in-second .last .1 .0) (y .in-second .last .1 .1 .0) (ap second (sym em)) (y .in-second .ensures))
+    (gave-as (second (past m inSecond v)) _ (u .put-double .last .0) (a .at + 1) (y .in-second .result) (y .in-second .last .1 .1 .1 .0)
+    (y .in-second .last .1 .0) (y .in-second .last .1 .1 .0) (ap second (sym em)) (y .in-second .ensures))
 
 pub in-first-spec : {M : Type 1} → statement M
 in-first-spec =

@@ -15,7 +15,8 @@ use Rattle.transfer_step.proofs.in_second.Statement.{statement}
 use Rattle.transfer_step.proofs.in_second.Tie as tie
 
 abbrev entry : tie.After-slice-known6 → tie.Start
-entry c = c .before .before .before .before .before .before .before .before .before .before .before .before .before .before .before .before .before .before .before .before .before .before .before .before .before .before .before
+entry c = c .before .before .before .before .before .before .before .before .before .before .before .before .before .before .before .before .before .before
+    .before .before .before .before .before .before .before .before .before
 
 needed-requires : tie.Need-needed-requires
 needed-requires c κs = search needs
@@ -24,7 +25,8 @@ returns : tie.Need-returns
 returns c =
     let n = c .before .before in
     let a = n .before .before .before .before .before .args in
-    gave-silent (second (machine (a .t) (a .f .now) (a .d .now))) (a .out .now) (a .at) (a .t) (a .f .now) (a .d .now) (second-waits (machine (a .t) (a .f .now) (a .d .now)) (λ e. c .if1 .taken (e ∙ sym (n .needed .ensures))))
+    gave-silent (second (machine (a .t) (a .f .now) (a .d .now))) (a .out .now) (a .at) (a .t) (a .f .now) (a .d .now)
+    (second-waits (machine (a .t) (a .f .now) (a .d .now)) (λ e. c .if1 .taken (e ∙ sym (n .needed .ensures))))
 
 is-odd-requires : tie.Need-is-odd-requires
 is-odd-requires c κs = search needs
@@ -116,12 +118,15 @@ returns-4 c =
     let m = machine (a .t) (a .f .now) (a .d .now) in
     let v = k .before .v .given .0 .0 in
     let ep = w .advance .ensures ∙ ap (λ (p : Place). update (length (a .f .now)) (predictors (a .f .now) (a .d .now) p) v) (w .before .place-of .ensures) in
-    let em = ap (λ (t : Transfer). machine t (w .advance .last .0) (w .advance .last .1 .0)) (c .pass .ensures) ∙ past-is (a .t) (a .f .now) (a .d .now) atPair v (w .advance .result) (w .advance .last .0) (w .advance .last .1 .0) (s .pre .sized) ep in
-    gave-one (second m) (silent (past m atPair v)) v (a .out .now) (a .at) _ (u .put-double .last .0) (u .put-double .last .0) (w .advance .last .0) (w .advance .last .1 .0)
+    let em = ap (λ (t : Transfer). machine t (w .advance .last .0) (w .advance .last .1 .0)) (c .pass .ensures)
+    ∙ past-is (a .t) (a .f .now) (a .d .now) atPair v (w .advance .result) (w .advance .last .0) (w .advance .last .1 .0) (s .pre .sized) ep in
+    gave-one (second m) (silent (past m atPair v)) v (a .out .now) (a .at) _ (u .put-double .last .0) (u .put-double .last .0) (w .advance .last .0)
+    (w .advance .last .1 .0)
     (second-judged m (o .before .if1 .left ∙ n .needed .ensures) (sym (o .is-odd .ensures) ∙ e .if2 .left)
     ∙ judged-double m (a .t .pair % 16) atPair silent (j .judge .result) (j .judge .ensures) v (k .before .v .given .0 .1 .0) (k .before .v .given .1))
     (u .put-double .ensures)
-    (gave-silent (silent (past m atPair v)) (u .put-double .last .0) (a .at + 1) (c .pass .result) (w .advance .last .0) (w .advance .last .1 .0) (ap silent (sym em)))
+    (gave-silent (silent (past m atPair v)) (u .put-double .last .0) (a .at + 1) (c .pass .result) (w .advance .last .0) (w .advance .last .1 .0)
+    (ap silent (sym em)))
 
 pub in-second-spec : {M : Type 1} → statement M
 in-second-spec =

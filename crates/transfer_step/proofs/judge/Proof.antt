@@ -11,7 +11,7 @@ use Rattle.fpc_stream.specs.Predictors.{fcm, dfcm, prediction}
 use Rattle.fpc_step.specs.declared.Place.{Place}
 use Rattle.fpc_step.specs.Calls.{predictors, predicted}
 use Rattle.fpc_stream.specs.declared.Step.the-variants.{Double, Bad}
-use Rattle.fpc_stream.specs.Reading.{Found, answered, answerOf}
+use Rattle.fpc_stream.specs.Reading.{answered, answerOf}
 use Rattle.transfer_step.specs.Machine.{Machine, inHand, judgement}
 use Rattle.transfer_step.specs.Record.{machine}
 use Rattle.transfer_step.proofs.judge.Statement.{statement}
@@ -30,7 +30,8 @@ half-of-requires : tie.Need-half-of-requires
 half-of-requires c κs = search needs
 
 -- the code's half byte is the rules', and its double the one in hand
-module _ (m : Machine) (hb : ℕ) (a : Predicted) (ea : a ≡ record { fcm = fcm (m .at); dfcm = dfcm (m .at) }) (x : ℕ) (ex : x ≡ prediction (a .fcm) (a .dfcm) (hb / 8))
+module _ (m : Machine) (hb : ℕ) (a : Predicted) (ea : a ≡ record { fcm = fcm (m .at); dfcm = dfcm (m .at) }) (x : ℕ)
+    (ex : x ≡ prediction (a .fcm) (a .dfcm) (hb / 8))
     (k : ℕ) (ek : k ≡ halfByte (a .fcm) (a .dfcm) (bitXor (m .value) x)) where
   v-is : bitXor (m .value) x ≡ inHand m hb
   v-is = ap (bitXor (m .value)) (ex ∙ ap (λ (p : Predicted). prediction (p .fcm) (p .dfcm) (hb / 8)) ea)
@@ -40,7 +41,8 @@ module _ (m : Machine) (hb : ℕ) (a : Predicted) (ea : a ≡ record { fcm = fcm
 
   judged-so : k ≡ hb → answerOf (Double (bitXor (m .value) x) (m .held)) ≡ answered (judgement m hb)
   unfolding judgement
-  judged-so e = rw (eq-eqb (halfByte (fcm (m .at)) (dfcm (m .at)) (inHand m hb)) hb (k-is ∙ e)) (ap (λ (v : ℕ). answered (some (record { double = v; next = m .held }))) v-is)
+  judged-so e = rw (eq-eqb (halfByte (fcm (m .at)) (dfcm (m .at)) (inHand m hb)) hb (k-is ∙ e))
+      (ap (λ (v : ℕ). answered (some (record { double = v; next = m .held }))) v-is)
 
   judged-not : (k ≡ hb → ⊥) → answerOf Bad ≡ answered (judgement m hb)
   unfolding judgement
@@ -57,7 +59,8 @@ returns c =
     let p = q .before in
     let a = p .before .before .before .args in
     let ea = q .predict .ensures ∙ ap (λ (z : Place). predicted (predictors (a .f .now) (a .d .now) z)) (p .place-of .ensures) in
-    judged-so (machine (a .t) (a .f .now) (a .d .now)) (a .half) (q .predict .result) ea (x .chosen .result) (x .chosen .ensures) (h .half-of .result) (h .half-of .ensures) (c .before .if1 .taken)
+    judged-so (machine (a .t) (a .f .now) (a .d .now)) (a .half) (q .predict .result) ea (x .chosen .result) (x .chosen .ensures) (h .half-of .result)
+    (h .half-of .ensures) (c .before .if1 .taken)
 
 returns-2 : tie.Need-returns-2
 returns-2 c =
@@ -67,7 +70,8 @@ returns-2 c =
     let p = q .before in
     let a = p .before .before .before .args in
     let ea = q .predict .ensures ∙ ap (λ (z : Place). predicted (predictors (a .f .now) (a .d .now) z)) (p .place-of .ensures) in
-    judged-not (machine (a .t) (a .f .now) (a .d .now)) (a .half) (q .predict .result) ea (x .chosen .result) (x .chosen .ensures) (h .half-of .result) (h .half-of .ensures) (c .if1 .left)
+    judged-not (machine (a .t) (a .f .now) (a .d .now)) (a .half) (q .predict .result) ea (x .chosen .result) (x .chosen .ensures) (h .half-of .result)
+    (h .half-of .ensures) (c .if1 .left)
 
 pub judge-spec : {M : Type 1} → statement M
 judge-spec =

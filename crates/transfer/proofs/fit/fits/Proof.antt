@@ -49,7 +49,20 @@ returns c =
     let q = n .before .before in
     let o = q .before .before in
     let z = o .before .before in
-    rw (c .both7 .ensures, b .both6 .ensures, c .before .in-bytes .ensures, h .held-below .ensures, p .both5 .ensures, k .both4 .ensures, g .given-fits .ensures, n .both3 .ensures, q .both2 .ensures, o .both .ensures, z .good-size .ensures)
+    rw (
+      c .both7 .ensures,
+      b .both6 .ensures,
+      c .before .in-bytes .ensures,
+      h .held-below .ensures,
+      p .both5 .ensures,
+      k .both4 .ensures,
+      g .given-fits
+          .ensures,
+      n .both3 .ensures,
+      q .both2 .ensures,
+      o .both .ensures,
+      z .good-size .ensures,
+    )
 
 pub fits-spec : {M : Type 1} → statement M
 fits-spec =
