@@ -82,6 +82,12 @@ module _ (m : Machine) where
   unfolding first
   first-judged h = rw (eq-eqb _ _ h)
 
+-- the predictors after a double, from the place that the record has
+pub at-place : (t : Transfer) (f d : List ℕ) (v : ℕ) (q : Place) → q ≡ placeOf t → (p : Place) (f′ d′ : List ℕ) → predictors f′ d′ p
+    ≡ update (length f) (predictors f d q) v
+    → predictors f′ d′ p ≡ update (length f) (predictors f d (placeOf t)) v
+at-place t f d v q e p f′ d′ h = rw e at h
+
 -- the record and the tables after a double
 pub past-is : (t : Transfer) (f d : List ℕ) (state v : ℕ) (p : Place) (f′ d′ : List ℕ) → t .size ≡ length f → predictors f′ d′ p
     ≡ update (length f) (predictors f d (placeOf t)) v

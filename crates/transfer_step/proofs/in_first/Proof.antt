@@ -2,14 +2,11 @@
 use mathlib.Core.Path.{sym, ap, _∙_}
 use Prim.Native.Nat.{_+_, _/_}
 use native.Mathlib.Omega.{arith}
-use lib.ListN.{length}
-use Rattle.fpc_step.specs.declared.Place.{Place}
-use Rattle.fpc_step.specs.Calls.{predictors}
-use Rattle.fpc_stream.specs.Predictors.{update}
 use Rattle.transfer_step.specs.declared.Transfer.{Transfer}
 use Rattle.transfer_step.specs.Machine.{inSecond, silent, past, second, first}
 use Rattle.transfer_step.specs.Record.{machine}
-use Rattle.transfer_step.proofs.Branches.{gave-silent, gave-one, gave-as, judged-other, judged-double, first-waits, first-judged, past-is, ready-past}
+use Rattle.transfer_step.proofs.Branches.{gave-silent, gave-one, gave-as, judged-other, judged-double, first-waits, first-judged, at-place, past-is}
+use Rattle.transfer_step.proofs.Branches.{ready-past}
 use borrow.Author.Needs.{needs}
 use Rattle.transfer_step.proofs.in_first.Statement.{statement}
 use Rattle.transfer_step.proofs.in_first.Tie as tie
@@ -85,7 +82,8 @@ in-second-requires c κs =
     let s = entry (k .before .before) in
     let a = s .args in
     let v = k .v .given .0 .0 in
-    let ep = w .advance .ensures ∙ ap (λ (p : Place). update (length (a .f .now)) (predictors (a .f .now) (a .d .now) p) v) (w .before .place-of .ensures) in
+    let ep = at-place (a .t) (a .f .now) (a .d .now) v (w .before .place-of .result) (w .before .place-of .ensures) (w .advance .result) _ _
+        (w .advance .ensures) in
     ready-past (a .t) (a .f .now) (a .d .now) (a .at) (s .pre) v (w .advance .result) (w .advance .last .0) (w .advance .last .1 .0) ep inSecond
     (x .pass .result) (x .pass .ensures)
 
@@ -111,7 +109,8 @@ returns-3 c =
     let a = s .args in
     let m = machine (a .t) (a .f .now) (a .d .now) in
     let v = k .v .given .0 .0 in
-    let ep = w .advance .ensures ∙ ap (λ (p : Place). update (length (a .f .now)) (predictors (a .f .now) (a .d .now) p) v) (w .before .place-of .ensures) in
+    let ep = at-place (a .t) (a .f .now) (a .d .now) v (w .before .place-of .result) (w .before .place-of .ensures) (w .advance .result) _ _
+        (w .advance .ensures) in
     let em = ap (λ (t : Transfer). machine t (w .advance .last .0) (w .advance .last .1 .0)) (x .pass .ensures)
     ∙ past-is (a .t) (a .f .now) (a .d .now) inSecond v (w .advance .result) (w .advance .last .0) (w .advance .last .1 .0) (s .pre .sized) ep in
     gave-one (first m) (second (past m inSecond v)) v (a .out .now) (a .at) (y .in-second .result) (u .put-double .last .0) (y .in-second .last .1 .1 .1 .0)

@@ -2,14 +2,10 @@
 use mathlib.Core.Path.{sym, ap, _∙_}
 use Prim.Native.Nat.{_+_, _%_}
 use native.Mathlib.Omega.{arith}
-use lib.ListN.{length}
-use Rattle.fpc_step.specs.declared.Place.{Place}
-use Rattle.fpc_step.specs.Calls.{predictors}
-use Rattle.fpc_stream.specs.Predictors.{update}
 use Rattle.transfer_step.specs.declared.Transfer.{Transfer}
 use Rattle.transfer_step.specs.Machine.{atPair, silent, past, second}
 use Rattle.transfer_step.specs.Record.{machine}
-use Rattle.transfer_step.proofs.Branches.{gave-silent, gave-one, judged-other, judged-double, second-waits, second-odd, second-judged, past-is}
+use Rattle.transfer_step.proofs.Branches.{gave-silent, gave-one, judged-other, judged-double, second-waits, second-odd, second-judged, at-place, past-is}
 use borrow.Author.Needs.{needs}
 use Rattle.transfer_step.proofs.in_second.Statement.{statement}
 use Rattle.transfer_step.proofs.in_second.Tie as tie
@@ -117,7 +113,8 @@ returns-4 c =
     let a = s .args in
     let m = machine (a .t) (a .f .now) (a .d .now) in
     let v = k .before .v .given .0 .0 in
-    let ep = w .advance .ensures ∙ ap (λ (p : Place). update (length (a .f .now)) (predictors (a .f .now) (a .d .now) p) v) (w .before .place-of .ensures) in
+    let ep = at-place (a .t) (a .f .now) (a .d .now) v (w .before .place-of .result) (w .before .place-of .ensures) (w .advance .result) _ _
+        (w .advance .ensures) in
     let em = ap (λ (t : Transfer). machine t (w .advance .last .0) (w .advance .last .1 .0)) (c .pass .ensures)
     ∙ past-is (a .t) (a .f .now) (a .d .now) atPair v (w .advance .result) (w .advance .last .0) (w .advance .last .1 .0) (s .pre .sized) ep in
     gave-one (second m) (silent (past m atPair v)) v (a .out .now) (a .at) _ (u .put-double .last .0) (u .put-double .last .0) (w .advance .last .0)
