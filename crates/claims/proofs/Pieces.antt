@@ -18,7 +18,7 @@ use Rattle.fpc_stream.proofs.Sound.{Sound, sound-start, sound-update}
 use Rattle.transfer_step.specs.declared.Transfer.{Transfer}
 use Rattle.transfer_step.specs.Machine.{Machine, Fed, atPair, inSecond, damaged, opened, second, feed, whole}
 use Rattle.transfer_step.specs.Record.{machine, transfer, shut, fit}
-use Rattle.transfer.specs.Outcome.{Outcome, Closing, given, openOutcome, pieceOutcome, closeOutcome}
+use Rattle.transfer.specs.Outcome.{Outcome, Closing, afterPiece, openOutcome, pieceOutcome, closeOutcome}
 use Rattle.transfer.specs.Session.{Part, session}
 use Rattle.transfer_step.proofs.FeedLaws.{feed-went, lent-feed}
 use Rattle.transfer_step.proofs.FitLaws.{fit-of, fit-to, fit-feed}
@@ -86,7 +86,7 @@ after-close t = go (fit t) (whole (machine t [] [])) refl
 -- ---- a whole transfer
 
 as-reader : AsReader
-as-reader f d pieces out good bytes room = (closes-as-read f d good pieces bytes out room, hands-out-as-read f d good pieces bytes out room)
+as-reader f d pieces out good bytes = (closes-as-read f d good pieces bytes out, hands-out-as-read f d good pieces bytes out)
 
 cuts : CutsAgree
 cuts f d pieces others good bytes e = cuts-agree f d good pieces others bytes e
@@ -212,7 +212,7 @@ module _ (t : Transfer) (f d piece out : List ℕ) where
       (cond (not good) (refused 20 0)
       (cond short (refused 21 0)
       (cond damaged-before (refused 23 0)
-      (cond room (refused 22 (2 * length piece)) (given out fed)))))
+      (cond room (refused 22 (2 * length piece)) (afterPiece out fed)))))
 
   abbrev lent : Bool
   lent = goodTables f d && eqb (length f) (t .size)
@@ -229,14 +229,14 @@ module _ (t : Transfer) (f d piece out : List ℕ) where
   Stays : Outcome → Type 0
   Stays o = (o .transfer ≡ t) × (o .out ≡ out) × (o .f ≡ f) × (o .d ≡ d)
 
-  given-answer : (given out fed .answer ≡ 0 → ⊥) → given out fed .answer ≡ 23
+  given-answer : (afterPiece out fed .answer ≡ 0 → ⊥) → afterPiece out fed .answer ≡ 23
   given-answer h = go (eqb (fed .to .state) damaged) h
     where
       go : (b : Bool) → (_≡_ {A = ℕ} (cond b 23 0) 0 → ⊥) → _≡_ {A = ℕ} (cond b 23 0) 23
       go true k = refl
       go false k = absurd (k refl)
 
-  given-damaged : given out fed .answer ≡ 23 → fed .to .state ≡ damaged
+  given-damaged : afterPiece out fed .answer ≡ 23 → fed .to .state ≡ damaged
   given-damaged h = go (eqb (fed .to .state) damaged) refl h
     where
       go : (b : Bool) → eqb (fed .to .state) damaged ≡ b → _≡_ {A = ℕ} (cond b 23 0) 23 → fed .to .state ≡ damaged
@@ -276,7 +276,7 @@ module _ (t : Transfer) (f d piece out : List ℕ) where
       let n : length f ≡ t .size = eqb-true _ _ (p .1) in
       let q = fit-feed (machine t f d) piece z (fit-of t f d qa) in
       let sized = lent-feed (machine t f d) piece (n, sym (same-length f d (p .0)) ∙ n) in
-      again (given out fed) next room (fit-to (fed .to) q) (good-lent (fed .to) q sized) (given-damaged h) l
+      again (afterPiece out fed) next room (fit-to (fed .to) q) (good-lent (fed .to) q sized) (given-damaged h) l
 
   room-rows : (a b c e g : Bool) → (byRows a b c e g .answer ≡ 22 → ⊥) → (byRows a b c e g .count ≤ 2 * length piece)
       × (drop (byRows a b c e g .count) (byRows a b c e g .out) ≡ drop (byRows a b c e g .count) out)

@@ -1,6 +1,6 @@
 -- Document 02, M-106, "Modem pieces": an FPC stream that is read as it comes, beside the reader of whole streams.
 use mathlib.Core.Path.{_≡_}
-use mathlib.Core.Bool.{true, false, cond}
+use mathlib.Core.Bool.{_||_, true, false, cond}
 use mathlib.Core.List.{List, [], _∷_, _++_}
 use Prim.Native.Nat.{ℕ, _+_, _-_, _*_, _%_, _^_, _≤_, _<_}
 use lib.Dec.{eqb}
@@ -51,16 +51,17 @@ NeverOpened = Closed shut × Closed ones
 -- ---- a whole transfer
 
 -- "However the stream is cut, also with empty pieces, the close gives 0 and the number of doubles exactly when the whole-stream reader accepts with room
--- enough, and then the doubles handed out are that reader's; else 23 and 0": for every list of pieces with their rooms, those that are refused among them.
--- The tables are that reader's too
+-- enough, and then the doubles handed out are that reader's; else 23 and 0": for every list of pieces with their rooms, those that are refused among them,
+-- and whatever room that reader is lent, which accepts with 0, or with 22 and the room that is enough. The tables are that reader's too
 abbrev pub AsReader : Type 0
 AsReader =
     (f d : List ℕ) (pieces : List Part) (out : List ℕ)
-    → goodTables f d ≡ true → AllBelow 256 (session f d pieces .stream) → mostDoubles ≤ length out
+    → goodTables f d ≡ true → AllBelow 256 (session f d pieces .stream)
     → let s = session f d pieces in
     let r = fpcReadOutcome f d (s .stream) out in
     (closeOutcome (s .transfer)
-    ≡ cond (eqb (r .answer) 0) (record { answer = 0; count = r .count; transfer = shut }) (record { answer = 23; count = 0; transfer = shut }))
+    ≡ cond (eqb (r .answer) 0 || eqb (r .answer) 22) (record { answer = 0; count = r .count; transfer = shut })
+    (record { answer = 23; count = 0; transfer = shut }))
     × (r .answer ≡ 0 → (r .out ≡ s .doubles ++ drop (length (s .doubles)) out) × (r .f ≡ s .f) × (r .d ≡ s .d))
 
 -- "the same for every cut": record, tables and doubles, damaged or not

@@ -1,28 +1,19 @@
 // FPC streams: document 01's "FPC stream", the public calls.
+pub mod tables;
+
 use fpc_run::Reply;
 use fpc_run::read_run;
 use fpc_run::write_run;
 use fpc_step::slices::clear;
+use tables::good_lengths;
 ghost use mathlib.Core.Path.{_≡_};
-ghost use mathlib.Core.Bool.{_&&_};
-ghost use lib.Dec.{eqb};
 ghost use Prim.Native.Nat.{_≤_};
 ghost use lib.ListN.{length};
 ghost use Rattle.fpc_stream.specs.Calls.{Tables};
 ghost use Rattle.fpc_stream.specs.Stream.{stream};
 ghost use Rattle.fpc_stream.specs.Reading.{mostDoubles, read};
-ghost use Rattle.fpc_stream.specs.Outcome.{goodSize, delivered, fpcWriteOutcome, readInto, fpcReadOutcome};
+ghost use Rattle.fpc_stream.specs.Outcome.{delivered, fpcWriteOutcome, readInto, fpcReadOutcome};
 ghost use Rattle.fpc.specs.Calls.{Refused, outcome};
-
-// Whether n is a power of two from 16 to 1,024.
-pub fn good_size(n: usize) -> bool
-    ensures { λ r. ⌜ r ≡ goodSize n ⌝ }
-{
-    match n {
-        16 | 32 | 64 | 128 | 256 | 512 | 1024 => true,
-        _ => false,
-    }
-}
 
 // Rows 22 and 23: both tables zero.
 fn refused(f: &mut [u64], d: &mut [u64], answer: u32, count: u32) -> Reply
@@ -31,13 +22,6 @@ fn refused(f: &mut [u64], d: &mut [u64], answer: u32, count: u32) -> Reply
     clear(f);
     clear(d);
     Reply { answer, count }
-}
-
-// Whether two tables of these lengths may be lent: equal, and a power of two from 16 to 1,024.
-pub fn good_lengths(m: usize, n: usize) -> bool
-    ensures { λ r. ⌜ r ≡ (eqb m n && goodSize m) ⌝ }
-{
-    if m == n { good_size(m) } else { false }
 }
 
 // The writer after rows 20 and 21: the length is measured first, with no room, so that row 22 leaves the output as it was.

@@ -17,7 +17,7 @@ use Rattle.fpc_stream.specs.Outcome.{goodSize, goodTables, mostBytes}
 use Rattle.transfer_step.specs.declared.Transfer.{Transfer}
 use Rattle.transfer_step.specs.Machine.{Machine, Fed, damaged, opened, feed, whole}
 use Rattle.transfer_step.specs.Record.{transfer, shut}
-use Rattle.transfer.specs.Outcome.{Outcome, given, openOutcome, pieceOutcome, closeOutcome}
+use Rattle.transfer.specs.Outcome.{Outcome, afterPiece, openOutcome, pieceOutcome, closeOutcome}
 use Rattle.transfer.specs.Session.{Part, Sent, taken, sent, session, closing}
 use Rattle.transfer_step.proofs.FeedLaws.{Lent, lent-feed, feed-append, feed-went}
 use Rattle.transfer.proofs.WholeLaws.{feed-read}
@@ -58,7 +58,7 @@ abbrev sentBy : Part → Outcome → Sent
 sentBy p o =
     record { transfer = o .transfer; f = o .f; d = o .d; stream = cond (taken o) (p .piece) []; doubles = cond (taken o) (take (o .count) (o .out)) [] }
 
--- `given`, by whether there was damage
+-- `afterPiece`, by whether there was damage
 abbrev givenBy : Bool → List ℕ → Fed → Outcome
 givenBy b out r =
     record {
@@ -81,7 +81,7 @@ module _ (m : Machine) (q : Fit m) (l : Lent m) where
   -- the rows after 25 and 20
   laterRows : Part → Bool → Bool → Bool → Outcome
   laterRows p a b c = cond a (refusedBy p 21 0)
-      (cond b (refusedBy p 23 0) (cond c (refusedBy p 22 (2 * length (p .piece))) (given (p .room) (feed m (p .piece)))))
+      (cond b (refusedBy p 23 0) (cond c (refusedBy p 22 (2 * length (p .piece))) (afterPiece (p .room) (feed m (p .piece)))))
 
   rows : (p : Part) → pieceOutcome (transfer m) (m .at .f) (m .at .d) (p .piece) (p .room)
       ≡ laterRows p (ltb mostBytes (length (p .piece))) (eqb (m .state) damaged) (ltb (length (p .room)) (2 * length (p .piece)))
@@ -89,7 +89,7 @@ module _ (m : Machine) (q : Fit m) (l : Lent m) where
   rows p = rw (fit-to m q, good-lent)
 
   -- "0 and 23 return how many this piece gave"
-  follows-given : (p : Part) → Follows m (sentBy p (given (p .room) (feed m (p .piece))))
+  follows-given : (p : Part) → Follows m (sentBy p (afterPiece (p .room) (feed m (p .piece))))
   follows-given p = go (eqb (feed m (p .piece) .to .state) damaged)
     where
       all : (vs : List ℕ) → take (length vs) (vs ++ drop (length vs) (p .room)) ≡ vs

@@ -26,8 +26,8 @@ openOutcome f d =
     (record { answer = 0; count = 0; transfer = transfer (opened (length f)); out = []; f = replicate (length f) 0; d = replicate (length f) 0 })
 
 -- 23 or 0: how many doubles this piece gave, and the tables as after them
-abbrev pub given : List ℕ → Fed → Outcome
-given out r =
+abbrev pub afterPiece : List ℕ → Fed → Outcome
+afterPiece out r =
     record {
       answer = cond (eqb (r .to .state) damaged) 23 0;
       count = length (r .doubles);
@@ -47,7 +47,7 @@ pieceOutcome t f d piece out =
     (cond (ltb mostBytes (length piece)) (refused 21 0)
     (cond (eqb (t .state) damaged) (refused 23 0)
     (cond (ltb (length out) (2 * length piece)) (refused 22 (2 * length piece))
-    (given out (feed (machine t f d) piece))))))
+    (afterPiece out (feed (machine t f d) piece))))))
 
 -- what a close answers, and the record after it
 pub record Closing : Type 0 where

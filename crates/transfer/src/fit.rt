@@ -1,5 +1,5 @@
 // Which records count as open: those that an opening and pieces can have made.
-use fpc::good_size;
+use fpc::tables::good_size;
 use transfer_step::Transfer;
 use transfer_step::needed;
 use transfer_step::power;

@@ -3,7 +3,7 @@
 mod fit;
 
 use fit::fits;
-use fpc::good_lengths;
+use fpc::tables::good_lengths;
 use fpc_run::Reply;
 use fpc_step::slices::clear;
 use transfer_step::Transfer;

@@ -7,8 +7,9 @@ use Prim.Native.Nat.{ℕ, suc, _+_, _/_, _%_, _^_, _≤_, _<_}
 use native.Mathlib.Nat.{add-zero}
 use native.Mathlib.Numerals.{add-one}
 use native.Mathlib.Omega.{arith}
-use lib.ListN.{length, set}
+use lib.ListN.{length, set, length-append}
 use borrow.Author.Tests.{eq-eqb, ne-eqb}
+use Rattle.bits.proofs.WriteLaws.{sets-append}
 use Rattle.fpc_step.specs.declared.Place.{Place}
 use Rattle.fpc_step.specs.Calls.{predictors}
 use Rattle.fpc_stream.specs.Predictors.{Predictors, update}
@@ -83,15 +84,13 @@ module _ (m : Machine) where
   first-judged h = rw (eq-eqb _ _ h)
 
 -- the predictors after a double, from the place that the record has
-pub at-place : (t : Transfer) (f d : List ℕ) (v : ℕ) (q : Place) → q ≡ placeOf t → (p : Place) (f′ d′ : List ℕ) → predictors f′ d′ p
-    ≡ update (length f) (predictors f d q) v
-    → predictors f′ d′ p ≡ update (length f) (predictors f d (placeOf t)) v
+pub at-place : (t : Transfer) (f d : List ℕ) (v : ℕ) (q : Place) → q ≡ placeOf t → (p : Place) (f′ d′ : List ℕ)
+    → predictors f′ d′ p ≡ update (length f) (predictors f d q) v → predictors f′ d′ p ≡ update (length f) (predictors f d (placeOf t)) v
 at-place t f d v q e p f′ d′ h = rw e at h
 
 -- the record and the tables after a double
-pub past-is : (t : Transfer) (f d : List ℕ) (state v : ℕ) (p : Place) (f′ d′ : List ℕ) → t .size ≡ length f → predictors f′ d′ p
-    ≡ update (length f) (predictors f d (placeOf t)) v
-    → machine (moved t state p) f′ d′ ≡ past (machine t f d) state v
+pub past-is : (t : Transfer) (f d : List ℕ) (state v : ℕ) (p : Place) (f′ d′ : List ℕ) → t .size ≡ length f
+    → predictors f′ d′ p ≡ update (length f) (predictors f d (placeOf t)) v → machine (moved t state p) f′ d′ ≡ past (machine t f d) state v
 past-is t f d state v p f′ d′ es e =
     ap (λ (s : Predictors). record { size = t .size; at = s; state = state; given = t .given + 1; pair = t .pair; held = 0; value = 0 }) (e ∙ rw es)
 
@@ -99,18 +98,66 @@ past-is t f d state v p f′ d′ es e =
 pub gave-as : (r q : Fed) (out : List ℕ) (at : ℕ) (k : Taken) (out′ f′ d′ : List ℕ) → r ≡ q → Gave q out at k out′ f′ d′ → Gave r out at k out′ f′ d′
 gave-as r q out at k out′ f′ d′ e g = subst (λ (x : Fed). Gave x out at k out′ f′ d′) (sym e) g
 
--- after the first double of a pair one more can be counted
-pub ready-past : (t : Transfer) (f d : List ℕ) (at : ℕ) → Ready 2 t f d at → (v : ℕ) (p : Place) (f′ d′ : List ℕ) → predictors f′ d′ p
-    ≡ update (length f) (predictors f d (placeOf t)) v
-    → (state : ℕ) (t′ : Transfer) → t′ ≡ moved t state p → Ready 1 t′ f′ d′ (at + 1)
-ready-past t f d at r v p f′ d′ e state t′ et =
-    subst (λ (x : Transfer). Ready 1 x f′ d′ (at + 1)) (sym et)
-    (record {
-      within = within-next f d (placeOf t) (r .within) v f′ d′ p e;
-      sized = r .sized ∙ sym (same-size f d (placeOf t) (r .within) v f′ d′ p e);
-      few = omega (arith, r .few);
-      early = omega (arith, r .early);
-    })
+-- what was given before, and what was given after it
+pub gave-more : (r q : Fed) (out₀ out out′ : List ℕ) (at₀ : ℕ) (j k : Taken) (f d f′ d′ : List ℕ) → Gave r out₀ at₀ j out f d
+    → Gave q out (j .next) k out′ f′ d′
+    → Gave (gives (r .doubles) q) out₀ at₀ k out′ f′ d′
+gave-more r q out₀ out out′ at₀ j k f d f′ d′ g h =
+    record {
+      to-is = h .to-is;
+      next-is = h .next-is ∙ omega (arith, g .next-is, length-append (r .doubles) (q .doubles));
+      put = h .put ∙ rw (g .put, g .next-is, sets-append out₀ at₀ (r .doubles) (q .doubles));
+    }
+
+-- after the code of a complete first double, which left the record and the tables of `judged .. silent`
+module _ (t : Transfer) (f d : List ℕ) (hb : ℕ) (k : Taken) (f₁ d₁ : List ℕ)
+    (e : machine (k .transfer) f₁ d₁ ≡ judged (machine t f d) hb inSecond silent .to) where
+  state-is : k .transfer .state ≡ judged (machine t f d) hb inSecond silent .to .state
+  state-is = ap (λ (x : Machine). x .state) e
+
+  -- it was damage
+  pub first-stops : (k .transfer .state ≡ inSecond → ⊥) → judged (machine t f d) hb inSecond second ≡ judged (machine t f d) hb inSecond silent
+  unfolding judged
+  first-stops h = go (judgement (machine t f d) hb) state-is
+    where
+      go : (o : Option Found) → k .transfer .state ≡ goesOut (machine t f d) inSecond silent o .to .state
+          → goesOut (machine t f d) inSecond second o ≡ goesOut (machine t f d) inSecond silent o
+      go none q = refl
+      go (some x) q = absurd (h q)
+
+  -- it went out, and the second comes
+  pub first-goes-on : k .transfer .state ≡ inSecond
+      → judged (machine t f d) hb inSecond second
+      ≡ gives (judged (machine t f d) hb inSecond silent .doubles) (second (judged (machine t f d) hb inSecond silent .to))
+  unfolding judged
+  first-goes-on h = go (judgement (machine t f d) hb) (sym h ∙ state-is)
+    where
+      go : (o : Option Found) → inSecond ≡ goesOut (machine t f d) inSecond silent o .to .state
+          → goesOut (machine t f d) inSecond second o
+          ≡ gives (goesOut (machine t f d) inSecond silent o .doubles) (second (goesOut (machine t f d) inSecond silent o .to))
+      go none q = absurd (omega arith)
+      go (some x) q = refl
+
+  -- and it can be counted
+  pub ready-second : (at : ℕ) → Ready 2 t f d at → k .next ≡ at + length (judged (machine t f d) hb inSecond silent .doubles) → k .transfer .state ≡ inSecond
+      → Ready 1 (k .transfer) f₁ d₁ (k .next)
+  unfolding judged
+  ready-second at r n h = go (judgement (machine t f d) hb) (sym h ∙ state-is) e n
+    where
+      go : (o : Option Found) → inSecond ≡ goesOut (machine t f d) inSecond silent o .to .state
+          → machine (k .transfer) f₁ d₁ ≡ goesOut (machine t f d) inSecond silent o .to
+          → k .next ≡ at + length (goesOut (machine t f d) inSecond silent o .doubles) → Ready 1 (k .transfer) f₁ d₁ (k .next)
+      go none q em en = absurd (omega arith)
+      go (some x) q em en =
+          let p = placeOf (k .transfer) in
+          let ep : predictors f₁ d₁ p ≡ update (length f) (predictors f d (placeOf t)) (x .double) = ap (λ (y : Machine). y .at) em ∙ rw (r .sized) in
+          let eg : k .transfer .given ≡ t .given + 1 = ap (λ (y : Machine). y .given) em in
+          record {
+            within = within-next f d (placeOf t) (r .within) (x .double) f₁ d₁ p ep;
+            sized = ap (λ (y : Machine). y .size) em ∙ r .sized ∙ sym (same-size f d (placeOf t) (r .within) (x .double) f₁ d₁ p ep);
+            few = omega (arith, r .few);
+            early = omega (arith, r .early);
+          }
 
 -- what a fit record allows
 module _ (t : Transfer) (f d : List ℕ) (s : Standing t f d) where

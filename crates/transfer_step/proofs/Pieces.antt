@@ -4,15 +4,15 @@ use mathlib.Core.List.{List, [], _∷_, _++_, append-nil}
 use Prim.Native.Nat.{ℕ, _+_, _*_, _≤_, _<_}
 use native.Mathlib.Numerals.{add-one}
 use native.Mathlib.Omega.{arith}
-use lib.ListN.{length, take, drop, getD, length-append, take-append-drop}
+use lib.ListN.{length, take, drop, getD, take-append-drop}
 use lib.Seq.{take-suc, take-length, length-sets, length-take-le}
-use Rattle.bits.proofs.WriteLaws.{sets-append}
 use Rattle.transfer_step.specs.declared.Transfer.{Transfer}
 use Rattle.transfer_step.specs.declared.Taken.{Taken}
 use Rattle.transfer_step.specs.Machine.{Machine, Fed, damaged, silent, gives, feedByte, feed}
 use Rattle.transfer_step.specs.Record.{machine, transfer, fit}
 use Rattle.transfer_step.specs.Calls.{Standing, Gave}
 use Rattle.transfer_step.proofs.FeedLaws.{byte-went, feed-went, feed-append, feed-snoc, lent-feed}
+use Rattle.transfer_step.proofs.Branches.{gave-more}
 use Rattle.transfer_step.proofs.FitLaws.{fit-byte, fit-of, fit-to, stays, feed-stays}
 
 -- after one byte the record is fit again, and the tables have its size
@@ -29,18 +29,6 @@ stands-byte t f d s b hb t′ f′ d′ e =
 
 pub same-size : (t : Transfer) (f d : List ℕ) (b : ℕ) (t′ : Transfer) (f′ d′ : List ℕ) → machine t′ f′ d′ ≡ feedByte (machine t f d) b .to → t′ .size ≡ t .size
 same-size t f d b t′ f′ d′ e = ap (λ (x : Machine). x .size) e ∙ byte-went (machine t f d) b .size-is
-
--- what was given before, and what a byte gave after it
-pub gave-more : (r q : Fed) (out₀ out out′ : List ℕ) (at : ℕ) (t : Transfer) (k : Taken) (f d f′ d′ : List ℕ)
-    → Gave r out₀ 0 (record { transfer = t; next = at }) out f d → Gave q out at k out′ f′ d′
-    → Gave (gives (r .doubles) q) out₀ 0 k out′ f′ d′
-gave-more r q out₀ out out′ at t k f d f′ d′ g h =
-    let n : at ≡ 0 + length (r .doubles) = g .next-is in
-    record {
-      to-is = h .to-is;
-      next-is = h .next-is ∙ omega (arith, length-append (r .doubles) (q .doubles));
-      put = h .put ∙ rw (g .put, n, sets-append out₀ 0 (r .doubles) (q .doubles));
-    }
 
 -- where the loop stands before byte i
 pub record Feeding (t₀ : Transfer) (f₀ d₀ piece out₀ : List ℕ) (t : Transfer) (f d out : List ℕ) (at i : ℕ) : Type 0 where
@@ -73,7 +61,8 @@ module _ (t₀ : Transfer) (f₀ d₀ piece out₀ : List ℕ) (t : Transfer) (f
       let s = stands-byte t f d (w .stands) b hb (k .transfer) f′ d′ (g .to-is) in
       let z = same-size t f d b (k .transfer) f′ d′ (g .to-is) in
       record {
-        gave = subst (λ (x : Fed). Gave x out₀ 0 k out′ f′ d′) (sym all) (gave-more r (feedByte (machine t f d) b) out₀ out out′ at t k f d f′ d′ (w .gave) g);
+        gave = subst (λ (x : Fed). Gave x out₀ 0 k out′ f′ d′) (sym all)
+            (gave-more r (feedByte (machine t f d) b) out₀ out out′ 0 (record { transfer = t; next = at }) k f d f′ d′ (w .gave) g);
         stands = s;
         inside = omega arith;
         f-room = s .f-sized ∙ z ∙ sym (w .stands .f-sized) ∙ w .f-room;

@@ -15,7 +15,7 @@ ghost use lib.ListN.{length};
 ghost use Rattle.fpc_stream.specs.Stream.{remainingCount};
 ghost use Rattle.fpc_stream.specs.Reading.{answered, answerOf};
 ghost use Rattle.fpc_step.specs.Calls.{Within};
-ghost use Rattle.transfer_step.specs.Machine.{odd, begun, holding, turned, judgement, second, first, feedByte, feed};
+ghost use Rattle.transfer_step.specs.Machine.{odd, begun, holding, turned, silent, judgement, judged, second, first, feedByte, feed};
 ghost use Rattle.transfer_step.specs.Record.{machine, transfer};
 ghost use Rattle.transfer_step.specs.Calls.{placeOf, moved, Ready, Standing, Gave};
 
@@ -161,6 +161,35 @@ fn judge(f: &[u64], d: &[u64], t: Transfer, half: u32) -> Step
     }
 }
 
+// A complete double goes out, and the transfer goes on in the next state; or it is damage.
+fn go_out(
+    t: Transfer,
+    f: &mut [u64],
+    d: &mut [u64],
+    out: &mut [u64],
+    at: usize,
+    half: u32,
+    next: u32,
+) -> Taken
+    requires { ⌜ Ready 1 t (now f) (now d) at ⌝ }
+    ensures { λ r. ⌜
+        Gave (judged (machine t (now (f .entry)) (now (d .entry))) half next silent)
+        (now (out .entry)) at r (now (out .exit)) (now (f .exit)) (now (d .exit)) ⌝ }
+{
+    let Step::Double(v, _) = judge(f, d, t, half) else {
+        return Taken {
+            transfer: turn(t, 5),
+            next: at,
+        };
+    };
+    let p = advance(f, d, place_of(t), v);
+    put_double(out, at, v);
+    Taken {
+        transfer: pass(t, next, p),
+        next: at + 1,
+    }
+}
+
 // In the second double of a pair.
 fn in_second(t: Transfer, f: &mut [u64], d: &mut [u64], out: &mut [u64], at: usize) -> Taken
     requires { ⌜ Ready 1 t (now f) (now d) at ⌝ }
@@ -181,21 +210,10 @@ fn in_second(t: Transfer, f: &mut [u64], d: &mut [u64], out: &mut [u64], at: usi
             next: at,
         };
     }
-    let Step::Double(v, _) = judge(f, d, t, low) else {
-        return Taken {
-            transfer: turn(t, 5),
-            next: at,
-        };
-    };
-    let p = advance(f, d, place_of(t), v);
-    put_double(out, at, v);
-    Taken {
-        transfer: pass(t, 1, p),
-        next: at + 1,
-    }
+    go_out(t, f, d, out, at, low, 1)
 }
 
-// In the first double of a pair.
+// In the first double of a pair. Its second may need no byte of its own.
 fn in_first(t: Transfer, f: &mut [u64], d: &mut [u64], out: &mut [u64], at: usize) -> Taken
     requires { ⌜ Ready 2 t (now f) (now d) at ⌝ }
     ensures { λ r. ⌜
@@ -209,15 +227,12 @@ fn in_first(t: Transfer, f: &mut [u64], d: &mut [u64], out: &mut [u64], at: usiz
             next: at,
         };
     }
-    let Step::Double(v, _) = judge(f, d, t, high) else {
-        return Taken {
-            transfer: turn(t, 5),
-            next: at,
-        };
-    };
-    let p = advance(f, d, place_of(t), v);
-    put_double(out, at, v);
-    in_second(pass(t, 3, p), f, d, out, at + 1)
+    let r = go_out(t, f, d, out, at, high, 3);
+    let s = r.transfer;
+    if s.state != 3 {
+        return r;
+    }
+    in_second(s, f, d, out, r.next)
 }
 
 // One byte more.

@@ -70,8 +70,8 @@ impl TransferRecord {
 /// An FPC stream that is read as it comes, with the tables that it needs: arrays, vectors, or slices that are lent.
 ///
 /// However the stream is cut into pieces, the doubles are those that [`fpc_read`](crate::fpc_read) reads from all of it, each as
-/// soon as it can be known; and [`Transfer::finish`] says whether it was a whole stream. Until then nothing is known but that
-/// what came so far is how such a stream begins.
+/// soon as it can be known; and [`Transfer::finish`] says whether it was a whole stream. Until then all that is known is that no
+/// damage has shown.
 ///
 /// ```
 /// use std::io::Read;

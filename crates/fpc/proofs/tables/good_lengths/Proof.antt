@@ -1,8 +1,8 @@
--- `fpc::good_lengths` meets its contract: each side of the test is a case of `&&`. Assumes nothing.
+-- `fpc::tables::good_lengths` meets its contract: each side of the test is a case of `&&`. Assumes nothing.
 use borrow.Author.Tests.{eq-eqb, ne-eqb}
 use borrow.Author.Needs.{needs}
-use Rattle.fpc.proofs.good_lengths.Statement.{statement}
-use Rattle.fpc.proofs.good_lengths.Tie as tie
+use Rattle.fpc.proofs.tables.good_lengths.Statement.{statement}
+use Rattle.fpc.proofs.tables.good_lengths.Tie as tie
 
 good-size-requires : tie.Need-good-size-requires
 good-size-requires c κs = search needs

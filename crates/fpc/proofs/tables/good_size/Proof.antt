@@ -1,12 +1,12 @@
--- `fpc::good_size` meets its contract: the numbers of the match are the powers of the definition. Assumes nothing.
+-- `fpc::tables::good_size` meets its contract: the numbers of the match are the powers of the definition. Assumes nothing.
 use mathlib.Core.Path.{_≡_, sym, ap}
 use mathlib.Core.Logic.{_⊎_, inl, inr}
 use mathlib.Core.Bool.{true, false}
 use Prim.Native.Nat.{ℕ}
 use borrow.Author.Tests.{ne-eqb}
 use Rattle.fpc_stream.specs.Outcome.{goodSize}
-use Rattle.fpc.proofs.good_size.Statement.{statement}
-use Rattle.fpc.proofs.good_size.Tie as tie
+use Rattle.fpc.proofs.tables.good_size.Statement.{statement}
+use Rattle.fpc.proofs.tables.good_size.Tie as tie
 
 among : (n : ℕ) → ((n ≡ 16) ⊎ ((n ≡ 32) ⊎ ((n ≡ 64) ⊎ ((n ≡ 128) ⊎ ((n ≡ 256) ⊎ ((n ≡ 512) ⊎ (n ≡ 1024))))))) → true ≡ goodSize n
 unfolding goodSize
