@@ -1,5 +1,10 @@
-// Which records count as open: those that an opening and pieces can have made.
+// Which records count as open: those whose numbers are in range and go together, as an opening and pieces leave them.
 use fpc::tables::good_size;
+use transfer_step::AT_PAIR;
+use transfer_step::DAMAGED;
+use transfer_step::ENDED;
+use transfer_step::IN_FIRST;
+use transfer_step::IN_SECOND;
 use transfer_step::Transfer;
 use transfer_step::needed;
 use transfer_step::power;
@@ -19,10 +24,10 @@ fn both(a: bool, b: bool) -> bool
 fn held_below(state: u32, pair: u32) -> u32
     ensures { λ r. ⌜ r ≡ heldBelow state pair ⌝ }
 {
-    if state == 2 {
+    if state == IN_FIRST {
         return needed(pair / 16);
     }
-    if state == 3 {
+    if state == IN_SECOND {
         return needed(pair % 16);
     }
     1
@@ -42,22 +47,22 @@ fn in_bytes(x: u64, n: u32) -> bool
 fn given_fits(state: u32, given: u32) -> bool
     ensures { λ r. ⌜ r ≡ givenFits state given ⌝ }
 {
-    if state == 1 {
+    if state == AT_PAIR {
         return given % 2 == 0;
     }
-    if state == 2 {
+    if state == IN_FIRST {
         return both(given % 2 == 0, given != 4096);
     }
-    if state == 3 {
+    if state == IN_SECOND {
         return given % 2 == 1;
     }
-    if state == 4 {
+    if state == ENDED {
         return given % 2 == 1;
     }
-    state == 5
+    state == DAMAGED
 }
 
-// Whether an opening and pieces can have made the record.
+// Whether the record counts as open.
 pub fn fits(t: Transfer) -> bool
     ensures { λ r. ⌜ r ≡ fit t ⌝ }
 {

@@ -6,12 +6,17 @@ use fit::fits;
 use fpc::tables::good_lengths;
 use fpc_run::Reply;
 use fpc_step::slices::clear;
+use transfer_step::AT_PAIR;
+use transfer_step::CLOSED;
+use transfer_step::DAMAGED;
+use transfer_step::ENDED;
 use transfer_step::Transfer;
 use transfer_step::fed;
 ghost use mathlib.Core.Path.{_≡_};
 ghost use mathlib.Core.Bool.{cond};
 ghost use mathlib.Core.List.{[]};
 ghost use lib.Dec.{eqb};
+ghost use Rattle.transfer_step.specs.Machine.{damaged};
 ghost use Rattle.transfer.specs.Outcome.{openOutcome, pieceOutcome, closeOutcome};
 ghost use Rattle.transfer.specs.Calls.{called, calledOff};
 
@@ -23,7 +28,7 @@ pub struct Answered {
 
 // A record that is closed.
 const SHUT: Transfer = Transfer {
-    state: 0,
+    state: CLOSED,
     given: 0,
     pair: 0,
     held: 0,
@@ -36,11 +41,12 @@ const SHUT: Transfer = Transfer {
 
 // 23 after damage, else 0.
 fn verdict(t: Transfer) -> u32
-    ensures { λ r. ⌜ r ≡ cond (eqb (t .state) 5) 23 0 ⌝ }
+    ensures { λ r. ⌜ r ≡ cond (eqb (t .state) damaged) 23 0 ⌝ }
 {
-    if t.state == 5 { 23 } else { 0 }
+    if t.state == DAMAGED { 23 } else { 0 }
 }
 
+// An answer, its count and the record after it.
 fn reply_with(t: Transfer, answer: u32, count: u32) -> Answered
     ensures { λ r. ⌜ calledOff (r .reply) (r .transfer) ≡ record { answer = answer; count = count; transfer = t } ⌝ }
 {
@@ -50,7 +56,7 @@ fn reply_with(t: Transfer, answer: u32, count: u32) -> Answered
     }
 }
 
-// An opening.
+// An opening: row 20 and a closed record, or both tables zero and an open one.
 pub fn open(f: &mut [u64], d: &mut [u64]) -> Answered
     ensures { λ r. ⌜
         called (r .reply) (r .transfer) [] (now (f .exit)) (now (d .exit))
@@ -64,7 +70,7 @@ pub fn open(f: &mut [u64], d: &mut [u64]) -> Answered
     let n = f.len();
     reply_with(
         Transfer {
-            state: 1,
+            state: AT_PAIR,
             given: 0,
             pair: 0,
             held: 0,
@@ -79,23 +85,23 @@ pub fn open(f: &mut [u64], d: &mut [u64]) -> Answered
     )
 }
 
-// A close.
+// A close: rows 25 and 23. With 23 it closes too.
 pub fn close(t: Transfer) -> Answered
     ensures { λ r. ⌜ calledOff (r .reply) (r .transfer) ≡ closeOutcome t ⌝ }
 {
     if !fits(t) {
         return reply_with(t, 25, 0);
     }
-    if t.state == 1 {
+    if t.state == AT_PAIR {
         return reply_with(SHUT, 0, t.given);
     }
-    if t.state == 4 {
+    if t.state == ENDED {
         return reply_with(SHUT, 0, t.given);
     }
     reply_with(SHUT, 23, 0)
 }
 
-// A piece.
+// The next piece: rows 25, 20, 21, 23 of earlier damage and 22; then its bytes, up to damage of its own.
 pub fn piece(t: Transfer, f: &mut [u64], d: &mut [u64], piece: &[u8], out: &mut [u64]) -> Answered
     ensures { λ r. ⌜
         called (r .reply) (r .transfer) (now (out .exit)) (now (f .exit)) (now (d .exit))
@@ -113,7 +119,7 @@ pub fn piece(t: Transfer, f: &mut [u64], d: &mut [u64], piece: &[u8], out: &mut 
     if 65536 < piece.len() {
         return reply_with(t, 21, 0);
     }
-    if t.state == 5 {
+    if t.state == DAMAGED {
         return reply_with(t, 23, 0);
     }
     let n = 2 * piece.len();

@@ -19,8 +19,21 @@ ghost use Rattle.transfer_step.specs.Machine.{odd, begun, holding, turne
 ghost use Rattle.transfer_step.specs.Record.{machine, transfer};
 ghost use Rattle.transfer_step.specs.Calls.{placeOf, moved, Ready, Standing, Gave};
 
-// Where a transfer stands. `state`: closed 0, at a pair's byte 1, in its first double 2, in its second 3, after the odd end 4, damaged 5.
-// `pair` is the pair's byte; `held` bytes of the double in hand came, and `value` is their number.
+// Where a transfer stands: closed, at a pair's byte, in its first double, in its second, after the odd end, damaged.
+pub const CLOSED: u32 = 0;
+
+pub const AT_PAIR: u32 = 1;
+
+pub const IN_FIRST: u32 = 2;
+
+pub const IN_SECOND: u32 = 3;
+
+pub const ENDED: u32 = 4;
+
+pub const DAMAGED: u32 = 5;
+
+// The record of a transfer. `state` is where it stands, `given` how many doubles it has given; `pair` is the byte of the last pair begun, `held` bytes of the
+// double in hand have come, and `value` is their number. `last`, `h` and `g` are the predictors', `size` is the length of the tables.
 #[repr(C)]
 pub struct Transfer {
     pub state: u32,
@@ -88,7 +101,7 @@ fn begin(t: Transfer, b: u8) -> Transfer
     ensures { λ r. ⌜ r ≡ transfer (begun (machine t [] []) b) ⌝ }
 {
     Transfer {
-        state: 2,
+        state: IN_FIRST,
         given: t.given,
         pair: b as u32,
         held: 0,
@@ -178,7 +191,7 @@ fn go_out(
 {
     let Step::Double(v, _) = judge(f, d, t, half) else {
         return Taken {
-            transfer: turn(t, 5),
+            transfer: turn(t, DAMAGED),
             next: at,
         };
     };
@@ -206,11 +219,11 @@ fn in_second(t: Transfer, f: &mut [u64], d: &mut [u64], out: &mut [u64], at: usi
     }
     if is_odd(t) {
         return Taken {
-            transfer: turn(t, 4),
+            transfer: turn(t, ENDED),
             next: at,
         };
     }
-    go_out(t, f, d, out, at, low, 1)
+    go_out(t, f, d, out, at, low, AT_PAIR)
 }
 
 // In the first double of a pair. Its second may need no byte of its own.
@@ -227,9 +240,9 @@ fn in_first(t: Transfer, f: &mut [u64], d: &mut [u64], out: &mut [u64], at: usiz
             next: at,
         };
     }
-    let r = go_out(t, f, d, out, at, high, 3);
+    let r = go_out(t, f, d, out, at, high, IN_SECOND);
     let s = r.transfer;
-    if s.state != 3 {
+    if s.state != IN_SECOND {
         return r;
     }
     in_second(s, f, d, out, r.next)
@@ -242,23 +255,23 @@ fn fed_byte(t: Transfer, f: &mut [u64], d: &mut [u64], b: u8, out: &mut [u64], a
         Gave (feedByte (machine t (now (f .entry)) (now (d .entry))) b)
         (now (out .entry)) at r (now (out .exit)) (now (f .exit)) (now (d .exit)) ⌝ }
 {
-    if t.state == 1 {
+    if t.state == AT_PAIR {
         if t.given == 4096 {
             return Taken {
-                transfer: turn(t, 5),
+                transfer: turn(t, DAMAGED),
                 next: at,
             };
         }
         return in_first(begin(t, b), f, d, out, at);
     }
-    if t.state == 2 {
+    if t.state == IN_FIRST {
         return in_first(hold(t, b), f, d, out, at);
     }
-    if t.state == 3 {
+    if t.state == IN_SECOND {
         return in_second(hold(t, b), f, d, out, at);
     }
     Taken {
-        transfer: turn(t, 5),
+        transfer: turn(t, DAMAGED),
         next: at,
     }
 }
@@ -274,7 +287,7 @@ pub fn fed(t: Transfer, f: &mut [u64], d: &mut [u64], piece: &[u8], out: &mut [u
     let mut at = 0usize;
     let mut i = 0usize;
     while i < piece.len() {
-        if s.state == 5 {
+        if s.state == DAMAGED {
             return Taken {
                 transfer: s,
                 next: at,

@@ -87,7 +87,7 @@ returns-2 c =
     let em = ap (λ (t : Transfer). machine t f′ d′) (c .pass .ensures)
     ∙ past-is (a .t) (a .f .now) (a .d .now) (a .next) v (w .advance .result) f′ d′ (s .pre .sized) ep in
     gave-one (judged m (a .half) (a .next) silent) (silent (past m (a .next) v)) v (a .out .now) (a .at) _ (u .put-double .last .0)
-        (u .put-double .last .0) f′ d′
+    (u .put-double .last .0) f′ d′
     (judged-double m (a .half) (a .next) silent (j .judge .result) (j .judge .ensures) v (k .v .given .0 .1 .0) (k .v .given .1))
     (u .put-double .ensures)
     (gave-silent (silent (past m (a .next) v)) (u .put-double .last .0) (a .at + 1) (c .pass .result) f′ d′ (ap silent (sym em)))
