@@ -18,6 +18,7 @@ use Rattle.transfer_step.specs.Machine.{Machine, Fed, atPair, inFirst, inSecond
 use Rattle.transfer_step.specs.Machine.{goesOut, judgement, judged, odd, second, first, feedByte, feed, whole, accepted}
 use Rattle.transfer.proofs.StepLaws.{from-snoc, step-short, step-complete, odd-none}
 
+-- the machine that holds these bytes of the double in hand
 abbrev pub machineAt : ℕ → Predictors → ℕ → ℕ → ℕ → List ℕ → Machine
 machineAt size s state n p held = record { size = size; at = s; state = state; given = n; pair = p; held = length held; value = fromBytes held }
 
