@@ -20,14 +20,14 @@ use Rattle.transfer_step.specs.Machine.{Machine, Fed, atPair, inSecond, damaged
 use Rattle.transfer_step.specs.Record.{machine, transfer, shut, fit}
 use Rattle.transfer.specs.Outcome.{Outcome, Closing, afterPiece, openOutcome, pieceOutcome, closeOutcome}
 use Rattle.transfer.specs.Session.{Part, session}
-use Rattle.transfer_step.proofs.FeedLaws.{feed-went, lent-feed}
+use Rattle.transfer_step.proofs.FeedLaws.{feed-append, feed-went, lent-feed}
 use Rattle.transfer_step.proofs.FitLaws.{fit-of, fit-to, fit-feed}
 use Rattle.transfer.proofs.SessionLaws.{good-lent, below-left, session-follows, session-f, session-d, cuts-agree}
 use Rattle.transfer.proofs.ReaderLaws.{closes-as-read, hands-out-as-read}
 use Rattle.transfer.proofs.WholeLaws.{machineAt}
 use Rattle.transfer.proofs.RunLaws.{sound-after, run-first, run-then}
 use Rattle.transfer.proofs.PromptLaws.{all-held, first-prompt, first-short, second-prompt, second-short}
-use Rattle.claims.specs.Pieces.{Closed, Opening, AfterClose, ones, NeverOpened, AsReader, CutsAgree, TablesStand, BeforeDamage, afterRun, EvenRun}
+use Rattle.claims.specs.Pieces.{Closed, Opening, AfterClose, ones, NeverOpened, AsReader, CutsAgree, TablesStand, OnlyMore, BeforeDamage, afterRun, EvenRun}
 use Rattle.claims.specs.Pieces.{FirstPrompt, SecondPrompt}
 use Rattle.claims.specs.Pieces.{RefusedPiece, DamageStays, TwiceTheBytes, ModemPieces}
 
@@ -93,6 +93,16 @@ cuts f d pieces others good bytes e = cuts-agree f d good pieces others bytes e
 
 tables-stand : TablesStand
 tables-stand f d pieces good bytes = (session-f f d good pieces bytes, session-d f d good pieces bytes)
+
+only-more : OnlyMore
+only-more f d pieces beginning good bytes rest e =
+    let xs = session f d beginning .stream in
+    let b = session-follows f d good beginning (below-left 256 xs rest (subst (AllBelow 256) e bytes) (lit< tt)) in
+    let m = opened (length f) in
+    let all : session f d pieces .doubles ≡ session f d beginning .doubles ++ feed (feed m xs .to) rest .doubles
+    = session-follows f d good pieces bytes .doubles-are ∙ ap (λ (l : List ℕ). feed m l .doubles) e ∙ ap (λ (r : Fed). r .doubles) (feed-append m xs rest)
+    ∙ ap (λ (l : List ℕ). l ++ feed (feed m xs .to) rest .doubles) (sym (b .doubles-are)) in
+    ap (take (length (session f d beginning .doubles))) all ∙ take-at (session f d beginning .doubles) (feed (feed m xs .to) rest .doubles) _ refl
 
 before-damage : BeforeDamage
 before-damage f d pieces good bytes vs rest doubles most e =
@@ -313,6 +323,7 @@ modem-pieces = (
   as-reader,
   cuts,
   tables-stand,
+  only-more,
   before-damage,
   first-double,
   second-double,

@@ -79,7 +79,14 @@ TablesStand =
     → let s = session f d pieces in
     (s .f ≡ tableF (length f) (s .doubles)) × (s .d ≡ tableD (length f) (s .doubles))
 
--- "A damaged transfer hands out the doubles before the damage": whatever comes after the stream of a run, the run is handed out first
+-- "A damaged transfer hands out the doubles before the damage": what the beginning of a stream hands out is handed out first, whatever comes after it
+abbrev pub OnlyMore : Type 0
+OnlyMore =
+    (f d : List ℕ) (pieces beginning : List Part) → goodTables f d ≡ true → AllBelow 256 (session f d pieces .stream)
+    → (rest : List ℕ) → session f d pieces .stream ≡ session f d beginning .stream ++ rest
+    → take (length (session f d beginning .doubles)) (session f d pieces .doubles) ≡ session f d beginning .doubles
+
+-- so is a run, whatever comes after its stream
 abbrev pub BeforeDamage : Type 0
 BeforeDamage =
     (f d : List ℕ) (pieces : List Part) → goodTables f d ≡ true → AllBelow 256 (session f d pieces .stream)
@@ -145,5 +152,5 @@ TwiceTheBytes =
 
 abbrev pub ModemPieces : Type 0
 ModemPieces =
-    Opening × AfterClose × NeverOpened × AsReader × CutsAgree × TablesStand × BeforeDamage × FirstPrompt × SecondPrompt
+    Opening × AfterClose × NeverOpened × AsReader × CutsAgree × TablesStand × OnlyMore × BeforeDamage × FirstPrompt × SecondPrompt
     × RefusedPiece × DamageStays × TwiceTheBytes
