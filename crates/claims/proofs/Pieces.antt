@@ -27,9 +27,8 @@ use Rattle.transfer.proofs.ReaderLaws.{closes-as-read, hands-out-as-read}
 use Rattle.transfer.proofs.WholeLaws.{machineAt}
 use Rattle.transfer.proofs.RunLaws.{sound-after, run-first, run-then}
 use Rattle.transfer.proofs.PromptLaws.{all-held, first-prompt, first-short, second-prompt, second-short}
-use Rattle.claims.specs.Pieces.{Closed, Opening, AfterClose, ones, NeverOpened, AsReader, CutsAgree, TablesStand, OnlyMore, BeforeDamage, afterRun, EvenRun}
-use Rattle.claims.specs.Pieces.{FirstPrompt, SecondPrompt}
-use Rattle.claims.specs.Pieces.{RefusedPiece, DamageStays, TwiceTheBytes, ModemPieces}
+use Rattle.claims.specs.Pieces.{Closed, Opening, AfterClose, ones, NeverOpened, AsReader, CutsAgree, TablesStand, OnlyMore, BeforeDamage, afterRun}
+use Rattle.claims.specs.Pieces.{EvenRun, FirstPrompt, SecondPrompt, RefusedPiece, DamageStays, TwiceTheBytes, ModemPieces}
 
 -- ---- records that are not open
 
