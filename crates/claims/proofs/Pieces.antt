@@ -13,6 +13,7 @@ use Rattle.fpc_stream.specs.Predictors.{Predictors, startPredictors, update}
 use Rattle.fpc_stream.specs.Stream.{remainingCount, halfAfter, remainingAfter, stream}
 use Rattle.fpc_stream.specs.Reading.{mostDoubles}
 use Rattle.fpc_stream.specs.Outcome.{goodSize, goodTables, mostBytes}
+use Rattle.fpc_stream.proofs.Rows.{good-tables}
 use Rattle.fpc_stream.proofs.CodeLaws.{half-lt}
 use Rattle.fpc_stream.proofs.Sound.{Sound, sound-start, sound-update}
 use Rattle.transfer_step.specs.declared.Transfer.{Transfer}
@@ -22,7 +23,7 @@ use Rattle.transfer.specs.Outcome.{Outcome, Closing, afterPiece, openOutcome, p
 use Rattle.transfer.specs.Session.{Part, session}
 use Rattle.transfer_step.proofs.FeedLaws.{feed-append, feed-went, lent-feed}
 use Rattle.transfer_step.proofs.FitLaws.{fit-of, fit-to, fit-feed}
-use Rattle.transfer.proofs.SessionLaws.{good-lent, below-left, session-follows, session-f, session-d, cuts-agree}
+use Rattle.transfer.proofs.SessionLaws.{good-size, good-lent, below-left, session-follows, session-f, session-d, cuts-agree}
 use Rattle.transfer.proofs.ReaderLaws.{closes-as-read, hands-out-as-read}
 use Rattle.transfer.proofs.WholeLaws.{machineAt}
 use Rattle.transfer.proofs.RunLaws.{sound-after, run-first, run-then}
@@ -44,14 +45,6 @@ shut-unfit : fit shut ≡ false
 unfolding goodSize
 shut-unfit = bad-size shut refl
 
-same-length : (f d : List ℕ) → goodTables f d ≡ true → length f ≡ length d
-unfolding goodTables
-same-length f d good = eqb-true _ _ (and-eq-true-iff (eqb (length f) (length d)) (goodSize (length f)) .0 good .0)
-
-good-size : (f d : List ℕ) → goodTables f d ≡ true → goodSize (length f) ≡ true
-unfolding goodTables
-good-size f d good = and-eq-true-iff (eqb (length f) (length d)) (goodSize (length f)) .0 good .1
-
 never-opened : NeverOpened
 unfolding goodSize
 never-opened = (closed-by shut shut-unfit, closed-by ones (bad-size ones refl))
@@ -60,7 +53,7 @@ opening : Opening
 unfolding openOutcome
 opening f d = (
   (λ e. rw e (refl, refl, refl, closed-by shut shut-unfit)),
-  (λ e. rw e (refl, refl, ap (λ (n : ℕ). replicate n 0) (same-length f d e))),
+  (λ e. rw e (refl, refl, ap (λ (n : ℕ). replicate n 0) (sym (good-tables f d e .same)))),
   no-count (goodTables f d),
 )
   where
@@ -284,7 +277,7 @@ module _ (t : Transfer) (f d piece out : List ℕ) where
       let p = and-eq-true-iff (goodTables f d) (eqb (length f) (t .size)) .0 qb in
       let n : length f ≡ t .size = eqb-true _ _ (p .1) in
       let q = fit-feed (machine t f d) piece z (fit-of t f d qa) in
-      let sized = lent-feed (machine t f d) piece (n, sym (same-length f d (p .0)) ∙ n) in
+      let sized = lent-feed (machine t f d) piece (n, good-tables f d (p .0) .same ∙ n) in
       again (afterPiece out fed) next room (fit-to (fed .to) q) (good-lent (fed .to) q sized) (given-damaged h) l
 
   room-rows : (a b c e g : Bool) → (byRows a b c e g .answer ≡ 22 → ⊥) → (byRows a b c e g .count ≤ 2 * length piece)

@@ -19,7 +19,7 @@ use Rattle.fpc_stream.proofs.StepLaws.{step-right, step-rest}
 use Rattle.fpc_stream.proofs.Sound.{Sound, sound-start, sound-update, fcm-lt, dfcm-lt}
 
 -- a number without set bytes has the code 7
-code-zero : residualCode 0 ≡ 7
+pub code-zero : residualCode 0 ≡ 7
 unfolding residualCode zeroBytes leadingZeros
 code-zero = refl
 

@@ -147,26 +147,22 @@ sent-follows (p ∷ ps) m q l h =
     (sent-from m′ ps (sent-follows ps m′ q′ (lent-feed m xs l)) (o .transfer) (o .f) (o .d) (x .transfer-is) (x .f-is) (x .d-is)
     (below-right 256 xs (r .stream) h))
 
+pub good-size : (f d : List ℕ) → goodTables f d ≡ true → goodSize (length f) ≡ true
+unfolding goodTables
+good-size f d good = and-eq-true-iff (eqb (length f) (length d)) (goodSize (length f)) .0 good .1
+
 module _ (f d : List ℕ) (good : goodTables f d ≡ true) (ps : List Part) (bytes : AllBelow 256 (session f d ps .stream)) where
-  same : length d ≡ length f
-  unfolding goodTables
-  same = sym (eqb-true _ _ (and-eq-true-iff (eqb (length f) (length d)) (goodSize (length f)) .0 good .0))
-
-  good-size : goodSize (length f) ≡ true
-  unfolding goodTables
-  good-size = and-eq-true-iff (eqb (length f) (length d)) (goodSize (length f)) .0 good .1
-
   abbrev ends : Fed
   ends = feed (opened (length f)) (session f d ps .stream)
 
   pub ends-fit : Fit (ends .to)
-  ends-fit = fit-feed (opened (length f)) (session f d ps .stream) bytes (fit-opened (length f) good-size)
+  ends-fit = fit-feed (opened (length f)) (session f d ps .stream) bytes (fit-opened (length f) (good-size f d good))
 
   -- an opened transfer and its pieces do what the bytes of their stream do, however they are cut
   pub session-follows : Follows (opened (length f)) (session f d ps)
   unfolding session openOutcome
   session-follows = rw good
-      (sent-follows ps (opened (length f)) (fit-opened (length f) good-size) (length-replicate _ _, length-replicate _ _) (rw good at bytes))
+      (sent-follows ps (opened (length f)) (fit-opened (length f) (good-size f d good)) (length-replicate _ _, length-replicate _ _) (rw good at bytes))
 
   -- the close gives 0 and the number of doubles exactly when the whole-stream reader accepts; else 23 and 0
   pub session-closes : closeOutcome (session f d ps .transfer) ≡ closing (read (length f) (session f d ps .stream))

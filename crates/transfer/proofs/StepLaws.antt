@@ -1,5 +1,5 @@
 -- A reading's step on bytes of which the first are held. Assumes nothing.
-use mathlib.Core.Path.{_≡_, refl, ap}
+use mathlib.Core.Path.{_≡_, ap}
 use mathlib.Core.Bool.{false, cond}
 use mathlib.Core.List.{List, [], _∷_, _++_}
 use mathlib.Core.Option.{none, some}
@@ -7,15 +7,15 @@ use Prim.Native.Nat.{ℕ, _+_, _*_, _/_, _%_, _^_, _≤_, _<_}
 use native.Mathlib.Nat.{pow-suc, mul-assoc}
 use native.Mathlib.Omega.{arith}
 use lib.Bits.{bitXor, xor-zero-l, xor-self}
-use lib.Count.{leadingZeros}
 use lib.Dec.{eqb}
 use lib.ListN.{length, length-append}
 use lib.Seq.{take-at}
 use borrow.Author.Tests.{le-leb, le-ltb, lt-leb}
 use Rattle.fpc_stream.specs.Bytes.{fromBytes}
 use Rattle.fpc_stream.specs.Predictors.{side, prediction}
-use Rattle.fpc_stream.specs.Stream.{zeroBytes, remainingCount, residual, residualCode, halfByte, oddHalf}
+use Rattle.fpc_stream.specs.Stream.{remainingCount, residual, halfByte, oddHalf}
 use Rattle.fpc_stream.specs.Reading.{decoded, coded, stepOf}
+use Rattle.fpc_stream.proofs.RoundTrip.{code-zero}
 
 -- one byte more at the end
 pub from-snoc : (held : List ℕ) (b : ℕ) → fromBytes (held ++ b ∷ []) ≡ fromBytes held + b * 256 ^ length held
@@ -23,10 +23,6 @@ from-snoc [] b = omega arith
 from-snoc (x ∷ held) b =
     let p = 256 ^ length held in
     omega (arith, from-snoc held b, ap (λ (y : ℕ). b * y) (pow-suc 256 (length held)), mul-assoc b p 256)
-
-code-zero : residualCode 0 ≡ 7
-unfolding residualCode zeroBytes leadingZeros
-code-zero = refl
 
 module _ (f d hb : ℕ) where
   -- a byte is missing

@@ -4,6 +4,7 @@ mod common;
 use common::*;
 use reference::fpc::stream_of;
 use reference::{FpcReply, Transfer, fpc_read, transfer_close, transfer_open, transfer_piece};
+use testing::cut_at;
 
 const ONE: u64 = 0x3FF0_0000_0000_0000;
 
@@ -46,19 +47,6 @@ fn transferred<'a>(size: usize, pieces: impl IntoIterator<Item = &'a [u8]>) -> O
 /// The pieces of one byte each.
 fn bytes_of_stream(stream: &[u8]) -> impl Iterator<Item = &[u8]> {
     stream.chunks(1)
-}
-
-/// All pieces of a stream that is cut at these places: bit k for a cut after byte k.
-fn cut(stream: &[u8], places: usize) -> Vec<&[u8]> {
-    let mut pieces = Vec::new();
-    let mut start = 0;
-    for end in 1..=stream.len() {
-        if end == stream.len() || places >> (end - 1) & 1 == 1 {
-            pieces.push(&stream[start..end]);
-            start = end;
-        }
-    }
-    pieces
 }
 
 #[test]
@@ -213,7 +201,7 @@ fn every_cut() {
         accepted += usize::from(agrees(16, &stream, &whole));
         damaged += usize::from(whole.pieces[0].0 == 23);
         for places in 0..1 << stream.len().saturating_sub(1) {
-            let outcome = transferred(16, cut(&stream, places));
+            let outcome = transferred(16, cut_at(&stream, places));
             agrees(16, &stream, &outcome);
             assert_eq!(outcome.doubles(), whole.doubles(), "{stream:x?} cut at {places:b}");
             assert_eq!((&outcome.f, &outcome.d), (&whole.f, &whole.d), "{stream:x?} cut at {places:b}");

@@ -41,6 +41,19 @@ pub fn bits(text: &str) -> Vec<bool> {
     text.chars().filter(|digit| *digit != ' ').map(|digit| digit == '1').collect()
 }
 
+/// The pieces of a stream that is cut at these places: bit k for a cut after byte k.
+pub fn cut_at(stream: &[u8], places: usize) -> Vec<&[u8]> {
+    let mut pieces = Vec::new();
+    let mut start = 0;
+    for end in 1..=stream.len() {
+        if end == stream.len() || places >> (end - 1) & 1 == 1 {
+            pieces.push(&stream[start..end]);
+            start = end;
+        }
+    }
+    pieces
+}
+
 /// A buffer with places on both sides of it that no call may touch.
 pub struct Guarded<T> {
     all: Vec<T>,

@@ -37,7 +37,9 @@ impl TransferRecord {
     /// # Errors
     /// [`Refusal::InvalidTables`], 20. The record is closed then, and the tables are as they were.
     pub fn open(&mut self, f: &mut [u64], d: &mut [u64]) -> Result<(), Refusal> {
-        fpc_outcome(ffi::transfer_open(self, f, d)).map(|_| ())
+        let count = fpc_outcome(ffi::transfer_open(self, f, d))?;
+        debug_assert!(count == 0, "a count of {count} with an opening");
+        Ok(())
     }
 
     /// Takes the next piece of the stream and gives the number of doubles that it made known, which stand at the start of

@@ -5,19 +5,7 @@ use crate::compare::*;
 use crate::make::*;
 use reference::FpcReply;
 use reference::fpc::{Predictors, stream_of};
-
-/// The pieces of a stream that is cut at these places: bit k for a cut after byte k.
-pub fn cut_at(stream: &[u8], places: usize) -> Vec<&[u8]> {
-    let mut pieces = Vec::new();
-    let mut start = 0;
-    for end in 1..=stream.len() {
-        if end == stream.len() || places >> (end - 1) & 1 == 1 {
-            pieces.push(&stream[start..end]);
-            start = end;
-        }
-    }
-    pieces
-}
+use testing::cut_at;
 
 /// The pieces of a stream that is cut at any places, about so many of them. Some are empty.
 pub fn any_cut<'a>(random: &mut Random, stream: &'a [u8], count: usize) -> Vec<&'a [u8]> {

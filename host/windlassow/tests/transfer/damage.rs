@@ -7,6 +7,7 @@ use crate::fit::bytes_of_half;
 use crate::make::*;
 use reference::FpcReply;
 use reference::fpc::{Predictors, stream_of};
+use testing::cut_at;
 
 /// Sends the bytes in one piece, byte by byte and in any pieces. All give the same doubles and leave the same tables. Counts the
 /// answers of the closes.

@@ -134,41 +134,15 @@ fn a_failed_opening_at_every_place() {
     }
 }
 
-/// The exported call itself: the interface does not pass on the count of an opening.
-#[allow(unsafe_code)]
-mod exported {
-    use super::TransferRecord;
-
-    #[repr(C)]
-    pub struct Reply {
-        pub answer: u32,
-        pub count: u32,
-    }
-
-    unsafe extern "C" {
-        fn windlassow_transfer_open(
-            transfer: *mut TransferRecord,
-            f: *mut u64,
-            f_len: usize,
-            d: *mut u64,
-            d_len: usize,
-        ) -> Reply;
-    }
-
-    pub fn open(transfer: &mut TransferRecord, f: &mut [u64], d: &mut [u64]) -> Reply {
-        // SAFETY: the pointers and lengths are those of slices borrowed for the call, and so is the record.
-        unsafe { windlassow_transfer_open(transfer, f.as_mut_ptr(), f.len(), d.as_mut_ptr(), d.len()) }
-    }
-}
-
-/// An opening has the count 0, done or refused, also of a record that has given doubles.
+/// An opening has the count 0, done or refused, also of a record that has given doubles: the interface sees to it.
 #[test]
 fn the_count_of_an_opening() {
-    for (f_len, d_len, answer) in [(16, 16, 0), (1024, 1024, 0), (16, 32, 20), (17, 17, 20)] {
+    for (f_len, d_len, is_good) in [(16, 16, true), (1024, 1024, true), (16, 32, false), (17, 17, false)] {
         for given in [0, 2, 4_096] {
             let mut record = TransferRecord { state: 1, given, size: 16, ..Default::default() };
-            let reply = exported::open(&mut record, &mut vec![1; f_len], &mut vec![2; d_len]);
-            assert_eq!((reply.answer, reply.count), (answer, 0), "tables of {f_len} and {d_len}");
+            let opened = record.open(&mut vec![1; f_len], &mut vec![2; d_len]);
+            let expected = if is_good { Ok(()) } else { Err(Refusal::InvalidTables) };
+            assert_eq!(opened, expected, "tables of {f_len} and {d_len}");
         }
     }
 }
