@@ -11,7 +11,7 @@ use Rattle.words.specs.Word.{AllBelow}
 use Rattle.transforms.specs.Four.{Transform}
 use Rattle.blocks.specs.Axes.{line, inLine, lineStart, along}
 use Rattle.transforms.specs.Calls.{onFour}
-use Rattle.order.proofs.Lists.{length-tabulate, getD-tabulate, words-tabulate}
+use Rattle.order.proofs.Lists.{length-tabulate, getD-tabulate, tabulate-getD, words-tabulate}
 use Rattle.transforms.proofs.Steps.{Keeps, Undoes}
 
 module _ (t : Transform) (s : ℕ) (ws : List ℕ) where
@@ -26,6 +26,11 @@ module _ (t : Transform) (s : ℕ) (ws : List ℕ) where
   pub along-at : (p : ℕ) → p < length ws → getD (along t s ws) p 0 ≡ getD (line t s (lineStart s p) ws) (inLine s p) 0
   unfolding along
   along-at p h = getD-tabulate (length ws) _ p 0 h
+
+-- four values are one line of stride 1
+pub along-four : (t : Transform) → ((x y z w : ℕ) → length (t x y z w) ≡ 4) → (ws : List ℕ) → length ws ≡ 4 → along t 1 ws ≡ onFour t ws
+unfolding along
+along-four t four ws long = rw long (tabulate-getD (onFour t ws) 4 (four _ _ _ _))
 
 -- a place p of a list of m * 4 * s values, and the line of stride s that it is in
 module _ (s m p : ℕ) (some : 0 < s) (inside : p < m * 4 * s) where

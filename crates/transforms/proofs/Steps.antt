@@ -5,8 +5,9 @@ use mathlib.Core.List.{[], _∷_}
 use Prim.Native.Nat.{ℕ, zero, suc, _^_, _<_}
 use lib.Pow.{pow-pos}
 use Rattle.words.proofs.Sums.{plus-lt, minus-lt, plus-minus, minus-plus}
+use Rattle.words.proofs.Halves.{half-lt}
 use Rattle.words.specs.Word.{plus, minus, AllBelow}
-use Rattle.transforms.specs.Four.{Transform, twiceLess, unlift, differ, undiffer, reading}
+use Rattle.transforms.specs.Four.{Transform, lift, twiceLess, unlift, differ, undiffer, reading}
 use Rattle.transforms.specs.Calls.{onFour}
 
 -- words of k bits give words of k bits
@@ -25,6 +26,10 @@ words-four k hx hy hz hw (suc (suc (suc zero))) = hw
 words-four k hx hy hz hw (suc (suc (suc (suc i)))) = pow-pos k
 
 module _ (k : ℕ) where
+  pub keeps-lift : 0 < k → Keeps k (lift k)
+  unfolding lift
+  keeps-lift some x y z w _ _ _ _ = words-four k (half-lt k _ some (plus-lt k _ _)) (minus-lt k _ _) (minus-lt k _ _) (plus-lt k _ _)
+
   pub keeps-unlift : Keeps k (unlift k)
   unfolding twiceLess unlift
   keeps-unlift x y z w _ _ _ _ = words-four k (minus-lt k _ _) (plus-lt k _ _) (minus-lt k _ _) (plus-lt k _ _)
