@@ -107,6 +107,8 @@ ours = (
   (refl, refl, refl),
   refl,
   (refl, refl, refl, refl),
+  ((refl, refl), (refl, refl), (refl, refl), (refl, refl)),
+  refl,
   refl,
   (refl, refl, refl, refl, refl),
   (refl, refl, refl, refl),

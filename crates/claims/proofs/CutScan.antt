@@ -32,15 +32,11 @@ use Rattle.codec.proofs.Uncut.{integers-kept, floats-kept}
 use Rattle.codec.proofs.Zeros.{zeros-read}
 use Rattle.params.specs.declared.Params.{Params}
 use Rattle.params.specs.Width.{float, exact, wordCount, widthOf}
-use Rattle.params.specs.Rows.{first}
 use Rattle.params.proofs.RowLaws.{Good, good}
 use Rattle.slot_code.specs.Rules.{IsBlock, codedPlanes, readPlanes, codeOf, wordsOf, depthOf, depthIn}
-use Rattle.slots.specs.Rows.{readRows}
-use Rattle.slots.specs.Outcome.{readOutcome}
-use Rattle.slots.proofs.RowLaws.{read-first}
 use Rattle.claims.specs.CutScan.{lossyHead, planesLeft, keptWords, NotCut, FirstBitZero, lossyCoefficients, StoredWhole, CutScans}
 use Rattle.claims.proofs.Lowest.{lossy-parts, none-stored}
-use Rattle.claims.proofs.Stored.{parts, at-place, storable, fits, depth-stored, slot-after}
+use Rattle.claims.proofs.Stored.{at-place, storable, depth-stored, lossy-read}
 
 -- ---- a slot that begins with all planes
 
@@ -185,15 +181,10 @@ module _ (p : Params) (ws : List ℕ) (g : Good p) (lossy : exact p ≡ false) (
       go false h = none-kept (omega (arith, leb-false 1 k h))
 
 stored-whole : StoredWhole
-unfolding readOutcome
 stored-whole p archive k ws before lossy done long all =
-    let slot = padded (widthOf p) (codeOf p ws) in
-    let s = slot-after p archive k ws (storable p archive k ws done) (fits p archive k ws done) in
-    let none : first (readRows p (length archive) k slot (length ws)) ≡ 0 =
-    read-first p (length archive) k (length ws) slot (parts p archive k ws done .0) ∙ rw lossy in
     let g = at-place p archive k ws done .good in
     let nine = storable p archive k ws done .1 in
-    rw (s, long, none) (stored-kept p ws g lossy (λ q. rw (q, lossy) at nine) (sym (depth-stored p archive k ws done) ∙ all))
+    rw (lossy-read p archive k ws lossy done before long) (stored-kept p ws g lossy (λ q. rw (q, lossy) at nine) (sym (depth-stored p archive k ws done) ∙ all))
 
 pub cut-scans : CutScans
 cut-scans = (cut-scan, cut-test, cut-told, not-cut, (λ p slot rows lossy. begins p (good p rows) lossy slot), first-bit-zero, stored-whole)

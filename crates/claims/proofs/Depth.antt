@@ -19,10 +19,9 @@ use Rattle.slot_code.specs.Rules.{codeOf, wordsOf, depthOf, depthIn, row11}
 use Rattle.slot_code.proofs.Depth.{depth-back, depth-most, depth-in-most}
 use Rattle.slots.specs.Rows.{bitRows, storeRows, readRows}
 use Rattle.slots.specs.Outcome.{Fetched, ifDone, countOutcome, bitOutcome, storeOutcome, readOutcome, slotIn}
-use Rattle.slots.proofs.RowLaws.{read-first}
 use Rattle.lines.proofs.CountLaws.{planes-repeated}
 use Rattle.claims.specs.Depth.{BitCountPlanes, ReadAsWritten, LossyAtMost, ExactReadPlanes, RefusedPlanes, ListedPlanes, HowDeep}
-use Rattle.claims.proofs.Stored.{parts, at-place, storable, fits, depth-stored, slot-after}
+use Rattle.claims.proofs.Stored.{at-place, storable, depth-stored, lossy-read}
 use Rattle.claims.proofs.Demand2.{comes-back}
 
 -- a lossy slot is read, whatever its bits are, and the planes are those that were written
@@ -30,14 +29,9 @@ lossy-written : (p : Params) (archive : List ℕ) (k : ℕ) (ws before : List �
     → storeOutcome p archive k ws .answer ≡ 0 → length before ≡ length ws
     → (readOutcome p (length archive) k (slotIn p (storeOutcome p archive k ws .bits) k) before .answer ≡ 0)
     × (readOutcome p (length archive) k (slotIn p (storeOutcome p archive k ws .bits) k) before .planes ≡ storeOutcome p archive k ws .planes)
-unfolding readOutcome
 lossy-written p archive k ws before e done long =
-    let slot = padded (widthOf p) (codeOf p ws) in
-    let s = slot-after p archive k ws (storable p archive k ws done) (fits p archive k ws done) in
-    let none : first (readRows p (length archive) k slot (length ws)) ≡ 0 =
-    read-first p (length archive) k (length ws) slot (parts p archive k ws done .0) ∙ rw e in
     let depth = depth-back p (at-place p archive k ws done .good .dimension) ws (storable p archive k ws done .1) ∙ sym (depth-stored p archive k ws done) in
-    rw (s, long, none) (refl, depth)
+    rw (lossy-read p archive k ws e done before long) (refl, depth)
 
 read-as-written : ReadAsWritten
 read-as-written p archive k ws before small done long = go (exact p) refl

@@ -11,16 +11,16 @@ use Rattle.bits.specs.Stream.{bitsOf, write}
 use Rattle.bits.proofs.StreamLaws.{length-bitsOf}
 use Rattle.codec.specs.Code.{padded}
 use Rattle.params.specs.declared.Params.{Params}
-use Rattle.params.specs.Width.{exact, widthOf}
+use Rattle.params.specs.Width.{exact, wordCount, widthOf}
 use Rattle.params.specs.Rows.{first, placeRows}
 use Rattle.params.proofs.RowLists.{none, first-both}
 use Rattle.params.proofs.RowLaws.{Placed, placed}
-use Rattle.slot_code.specs.Rules.{codeOf, depthOf, row9, row10}
+use Rattle.slot_code.specs.Rules.{codeOf, wordsOf, depthOf, depthIn, row9, row10}
 use Rattle.slot_code.specs.Calls.{uncutOf}
 use Rattle.slot_code.proofs.SlotLaws.{lossy-code}
-use Rattle.slots.specs.Rows.{storeRows}
-use Rattle.slots.specs.Outcome.{storeOutcome, slotIn}
-use Rattle.slots.proofs.RowLaws.{store-first}
+use Rattle.slots.specs.Rows.{storeRows, readRows}
+use Rattle.slots.specs.Outcome.{storeOutcome, readOutcome, slotIn}
+use Rattle.slots.proofs.RowLaws.{store-first, read-first}
 use Rattle.slots.proofs.InSlot.{slot-written}
 use Rattle.claims.specs.Demand3.{Storable, Takes, RefusesAsTooLong}
 
@@ -81,6 +81,18 @@ module _ (p : Params) (archive : List ℕ) (k : ℕ) (ws : List ℕ) where
     slot-after h =
         let place = placed p (length archive) k (length ws) (s .0) in
         rw (stores h .1) (slot-written p (bitsOf archive) k ws (omega (arith, length-bitsOf archive, place .room)) h)
+
+  -- and a read of it in lossy mode, where no row of a read is left
+  pub lossy-read : exact p ≡ false → storeOutcome p archive k ws .answer ≡ 0 → (before : List ℕ) → length before ≡ length ws
+      → let slot = padded (widthOf p) (codeOf p ws) in
+      readOutcome p (length archive) k (slotIn p (storeOutcome p archive k ws .bits) k) before
+      ≡ record { answer = 0; count = wordCount p; planes = depthIn p slot; words = wordsOf p slot }
+  unfolding readOutcome
+  lossy-read lossy done before long =
+      let slot = padded (widthOf p) (codeOf p ws) in
+      let none : first (readRows p (length archive) k slot (length ws)) ≡ 0 =
+      read-first p (length archive) k (length ws) slot (parts done .0) ∙ rw lossy in
+      rw (slot-after (storable done) (fits done), long, none)
 
 module _ (p : Params) (ws : List ℕ) where
   pub takes-fitting : length (codeOf p ws) ≤ widthOf p → Takes p ws

@@ -23,6 +23,7 @@ use Rattle.transfer_step.specs.Record.{shut}
 use Rattle.transfer.specs.Outcome.{Closing, pieceOutcome, closeOutcome}
 use Rattle.transfer.specs.Session.{Sent, session}
 use Rattle.frames.specs.Listing.{listing}
+use Rattle.claims.specs.HowFar.{firstOff, secondOff, thirdOff, fourthOff, Reached}
 use Rattle.claims.specs.Text.{text, textLine}
 
 -- bits as the cases write them, in digits 0 and 1
@@ -300,6 +301,21 @@ RowThirteen =
     × (countOutcome (lossyFloatsTo 600 16) 65537 ≡ record { answer = 6; count = 0; planes = 0 })
     × (bitOutcome (lossyFloatsTo 601 16) [] ≡ record { answer = 13; count = 0; planes = 0 })
 
+-- ---- rows of our own: how far off lossy integers come back
+
+-- readings in tenths of a degree that reach each bound of M-107, in 131 bits
+abbrev pub BoundsReached : Type 0
+BoundsReached =
+    let back : List ℕ → List ℕ = λ ws. readBack (lossyIntegersAt 131) 17 ws .words in
+    let uneven : List ℕ = 365 ∷ 366 ∷ 365 ∷ 364 ∷ [] in
+    Reached firstOff 0 back (366 ∷ 366 ∷ 366 ∷ 365 ∷ []) (366 ∷ 365 ∷ 365 ∷ 364 ∷ []) × Reached secondOff 1 back uneven uneven
+    × Reached thirdOff 2 back uneven (replicate 4 366) × Reached fourthOff 3 back uneven (replicate 4 366)
+
+-- and integers of its range that take 129 bits, in 128: they are off by 1, -1, 1 and -3
+abbrev pub BoundsPassed : Type 0
+BoundsPassed =
+    readBack (lossyIntegersAt 128) 16 (1 ∷ 0xc000_0001 ∷ 0xc000_0001 ∷ 0x3fff_ffff ∷ []) .words ≡ 2 ∷ 0xc000_0000 ∷ 0xc000_0002 ∷ 0x3fff_fffc ∷ []
+
 -- ---- rows of our own: the listing
 
 -- "In: .. Out: ..", the listing that P2 cites
@@ -377,7 +393,7 @@ abbrev pub Ours : Type 0
 Ours =
     WidthZero × BetweenNeighbours × LossyFloats × Answers11 × OrderTold × NegativeHalved × RoundingTie × CutScan × CutTest × CutScanAtLast × CutVerbatim
     × FourAsThree × DfcmTaken × TieTakesFcm × OddThree × HashWraps × RampsTold × WidestSlots × PlanesWritten × PlanesFound × PlanesOfZeros
-    × PlanesLeft × NoPlanesRead × RowThirteen × Listed × ListedBad × Copies × Pieces × NotBefore
+    × PlanesLeft × NoPlanesRead × RowThirteen × BoundsReached × BoundsPassed × Listed × ListedBad × Copies × Pieces × NotBefore
 
 abbrev pub Table : Type 0
 Table = Paper × Ours
