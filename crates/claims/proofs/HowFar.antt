@@ -11,6 +11,7 @@ use lib.IntN.{ℤ, pos, negsuc, negℤ, _+ℤ_, subℕ, +ℤ-assoc, +ℤ-comm}
 use lib.ListN.{length, getD}
 use lib.Signed.{leZ, _≤ℤ_, leZ-yes}
 use Rattle.words.specs.Word.{minus}
+use Rattle.order.proofs.Lists.{tabulate-getD}
 use Rattle.order.proofs.Orders.{in-order}
 use Rattle.planes.specs.Coder.{planesCode, mostBits}
 use Rattle.planes.proofs.Bound.{bound}
@@ -19,19 +20,19 @@ use Rattle.transforms.specs.Four.{lift, unlift}
 use Rattle.transforms.specs.Losses.{ComesBack}
 use Rattle.transforms.specs.Calls.{onFour}
 use Rattle.transforms.proofs.Steps.{keeps-lift}
-use Rattle.transforms.proofs.Losses.{lift-back}
+use Rattle.transforms.proofs.Losses.{lift-back, fours-back}
 use Rattle.blocks.specs.Coefficients.{coefficients, values}
 use Rattle.blocks.proofs.Lines.{length-along, along-four}
 use Rattle.blocks.proofs.Whole.{length-coefficients, values-through}
 use Rattle.codec.specs.Depth.{wholeWritten}
 use Rattle.params.specs.declared.Params.{Params}
 use Rattle.params.specs.Width.{float, exact, widthOf}
-use Rattle.slot_code.specs.Rules.{IsBlock, codedPlanes, depthOf, depthIn}
+use Rattle.slot_code.specs.Rules.{IsBlock, codedPlanes, depthOf}
 use Rattle.slot_code.proofs.Depth.{depth-back}
 use Rattle.slots.specs.Outcome.{storeOutcome}
 use Rattle.claims.specs.Lowest.{twosComplement}
 use Rattle.claims.specs.Tolerance.{kept}
-use Rattle.claims.specs.HowFar.{Shelved, readAfter, Most, Within, HowFarOff, TransformAlone, TransformWithin, OffByBits, HowFar}
+use Rattle.claims.specs.HowFar.{Shelved, readAfter, Most, Within, thereAndBack, HowFarOff, TransformAlone, TransformWithin, OffByBits, FoursExact, HowFar}
 use Rattle.claims.specs.HowFar.{firstOff, secondOff, thirdOff, fourthOff}
 use Rattle.claims.proofs.CutScan.{stored-kept}
 use Rattle.claims.proofs.Stored.{at-place, storable, depth-stored, lossy-read}
@@ -115,14 +116,21 @@ all-kept [] = refl
 all-kept (c ∷ cs) = ap₂ {C = List ℕ} (λ x l. x ∷ l) (omega arith) (all-kept cs)
 
 -- of four values
-through : (ws : List ℕ) → IsBlock 1 ws → values 32 false 1 (coefficients 32 false 1 ws) ≡ onFour (unlift 32) (onFour (lift 32) ws)
+through : (ws : List ℕ) → IsBlock 1 ws → values 32 false 1 (coefficients 32 false 1 ws) ≡ thereAndBack ws
 unfolding lift unlift
 through ws b =
     values-through 1 (in-order 1 (omega arith)) 32 false (keeps-lift 32 (omega arith)) ws (b .long) (b .words)
-    ∙ along-four (unlift 32) (λ x y z w. refl) _ (length-along (lift 32) 1 ws ∙ b .long) ∙ ap (onFour (unlift 32)) (along-four (lift 32) (λ x y z w. refl) ws (b .long))
+    ∙ along-four (unlift 32) (λ x y z w. refl) _ (length-along (lift 32) 1 ws ∙ b .long)
+    ∙ ap (onFour (unlift 32)) (along-four (lift 32) (λ x y z w. refl) ws (b .long))
 
 off-by-bits : OffByBits
 off-by-bits ws b = lift-back 32 (omega arith) (getD ws 0 0) (getD ws 1 0) (getD ws 2 0) (getD ws 3 0) (b .words 1)
+
+fours-exact : FoursExact
+fours-exact ws b fours =
+    fours-back 32 (omega arith) (omega arith) (getD ws 0 0) (getD ws 1 0) (getD ws 2 0) (getD ws 3 0)
+    (b .words 0) (b .words 1) (b .words 2) (b .words 3) (fours 0) (fours 1) (fours 2) (fours 3)
+    ∙ tabulate-getD ws 4 (b .long)
 
 module _ (p : Params) (archive : List ℕ) (k : ℕ) (ws before : List ℕ) (s : Shelved p archive k ws before) where
   abbrev cs : List ℕ
@@ -149,7 +157,7 @@ module _ (p : Params) (archive : List ℕ) (k : ℕ) (ws before : List ℕ) (s :
       depth-stored p archive k ws (s .done) ∙ rw (integers, lossy, coded) (all-within 32 32 (widthOf p) us fits)
 
   transform-alone : storeOutcome p archive k ws .planes ≡ 32
-      → readAfter p archive k ws before ≡ record { answer = 0; count = 4; planes = 32; words = onFour (unlift 32) (onFour (lift 32) ws) }
+      → readAfter p archive k ws before ≡ record { answer = 0; count = 4; planes = 32; words = thereAndBack ws }
   transform-alone all =
       let place = at-place p archive k ws (s .done) in
       let depth : depthOf p ws ≡ 32 = sym (depth-stored p archive k ws (s .done)) ∙ all in
@@ -171,7 +179,7 @@ transform-within ws b range = rw (back .values) (
     u : ℕ → ℕ
     u i = getD ws i 0
 
-    back : ComesBack 32 (u 0) (u 1) (u 2) (u 3) (onFour (unlift 32) (onFour (lift 32) ws))
+    back : ComesBack 32 (u 0) (u 1) (u 2) (u 3) (thereAndBack ws)
     back = off-by-bits ws b
 
     inner : (i : ℕ) → Inner (u i)
@@ -182,4 +190,4 @@ how-far-off p archive k ws before s range wide =
     rw (transform-alone p archive k ws before s (reported p archive k ws before s (omega (arith, wide)))) (refl, transform-within ws (s .block) range)
 
 pub how-far : HowFar
-how-far = (how-far-off, transform-alone, transform-within, off-by-bits)
+how-far = (how-far-off, transform-alone, transform-within, off-by-bits, fours-exact)

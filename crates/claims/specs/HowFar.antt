@@ -1,7 +1,7 @@
 -- Document 02, M-107, "How far off is a lossy shelf": what lossy means for integer readings, in a slot that cuts nothing.
 use mathlib.Core.Path.{_≡_}
 use mathlib.Core.List.{List}
-use Prim.Native.Nat.{ℕ, _-_, _^_, _≤_}
+use Prim.Native.Nat.{ℕ, _-_, _%_, _^_, _≤_}
 use lib.IntN.{ℤ, pos, negℤ, _+ℤ_}
 use lib.ListN.{length, getD}
 use lib.Signed.{_≤ℤ_}
@@ -86,22 +86,30 @@ Reached most i back low high = (value low i ≡ value (back low) i +ℤ pos (mos
 
 -- ---- in narrower slots, and of any words
 
--- what comes back is what reading's transform makes of writing's, wherever the store reports all planes
+-- what reading's transform makes of writing's
+abbrev pub thereAndBack : List ℕ → List ℕ
+thereAndBack ws = onFour (unlift 32) (onFour (lift 32) ws)
+
+-- that is what comes back wherever the store reports all planes, in a slot of whatever width
 abbrev pub TransformAlone : Type 0
 TransformAlone =
     (p : Params) (archive : List ℕ) (k : ℕ) (ws before : List ℕ) → Shelved p archive k ws before → storeOutcome p archive k ws .planes ≡ 32
-    → readAfter p archive k ws before ≡ record { answer = 0; count = 4; planes = 32; words = onFour (unlift 32) (onFour (lift 32) ws) }
+    → readAfter p archive k ws before ≡ record { answer = 0; count = 4; planes = 32; words = thereAndBack ws }
 
--- and that is as far off, in whatever slot
+-- and it is off by no more
 abbrev pub TransformWithin : Type 0
-TransformWithin = (ws : List ℕ) → IsBlock 1 ws → InRange ws → EachWithin ws (onFour (unlift 32) (onFour (lift 32) ws))
+TransformWithin = (ws : List ℕ) → IsBlock 1 ws → InRange ws → EachWithin ws (thereAndBack ws)
 
 -- modulo 2^32 it is off by the bits that the halvings lost, also out of the range: there a value within two of the lowest or the highest word can come
 -- back at the other end
 abbrev pub OffByBits : Type 0
 OffByBits =
     (ws : List ℕ) → IsBlock 1 ws
-    → ComesBack 32 (getD ws 0 0) (getD ws 1 0) (getD ws 2 0) (getD ws 3 0) (onFour (unlift 32) (onFour (lift 32) ws))
+    → ComesBack 32 (getD ws 0 0) (getD ws 1 0) (getD ws 2 0) (getD ws 3 0) (thereAndBack ws)
+
+-- of multiples of four no halving loses a bit: they come back exact
+abbrev pub FoursExact : Type 0
+FoursExact = (ws : List ℕ) → IsBlock 1 ws → ((i : ℕ) → getD ws i 0 % 4 ≡ 0) → thereAndBack ws ≡ ws
 
 abbrev pub HowFar : Type 0
-HowFar = HowFarOff × TransformAlone × TransformWithin × OffByBits
+HowFar = HowFarOff × TransformAlone × TransformWithin × OffByBits × FoursExact

@@ -4,10 +4,12 @@ use mathlib.Core.List.{[], _∷_}
 use Prim.Native.Nat.{ℕ, _+_, _-_, _*_, _/_, _%_, _^_, _≤_, _<_}
 use native.Mathlib.Nat.{add-zero, zero-add, mod-lt, mod-eq-of-lt, mod-add-div', add-mul-mod-self-right}
 use native.Mathlib.Omega.{arith}
+use lib.Arith.{digits-mod}
 use lib.Pow.{pow-pos}
 use Rattle.words.specs.Word.{plus, minus, half}
 use Rattle.words.proofs.Sums.{plus-lt, minus-lt, plus-minus, minus-plus}
 use Rattle.words.proofs.Halves.{half-lt, half-twice}
+use Rattle.words.proofs.LowBits.{low-low}
 use Rattle.transforms.specs.Four.{lift, twiceLess, unlift}
 use Rattle.transforms.specs.Losses.{ComesBack}
 use Rattle.transforms.specs.Calls.{onFour}
@@ -146,27 +148,86 @@ module _ (k : ℕ) (some : 0 < k) where
     unchanged : (a : ℕ) → Alike m a a
     unchanged a = record { up = 0; down = 0; same = omega arith }
 
+    -- what comes back, with the bits that were lost
+    back-is : onFour (unlift k) (lift k x y z w)
+        ≡ minus k (x + lost w₁ y₁) (lost x w + lost x₁ z₁) ∷ y ∷ minus k z (lost z y) ∷ minus k w (lost x₁ z₁ + lost w₁ y₁) ∷ []
+    back-is =
+        let xz = returned-so x₁ z₁ x₂ z₂ (unchanged x₂) (unchanged z₂) in
+        let wy = returned-so w₁ y₁ w₂ y₂ (unchanged w₂) (unchanged y₂) in
+        let zy = returned-so z y (second x₂ z₂) (second w₂ y₂) (xz .0) (wy .0) in
+        let xw = returned x w (lost x₁ z₁) (lost w₁ y₁) (first x₂ z₂) (first w₂ y₂) (xz .1) (wy .1) in
+        undone
+        ∙ rw (
+          less _ (x + lost w₁ y₁) (lost x w + lost x₁ z₁) (first-lt _ _) (xw .1),
+          less _ z (lost z y) (first-lt _ _) (zy .1),
+          less _ w (lost x₁ z₁ + lost w₁ y₁) (plus-lt k _ _) (xw .0),
+          same-word (plus-lt k _ _) word (zy .0),
+        )
+
     bit : (u v : ℕ) → lost u v ≤ 1
     bit u v = omega arith
 
     pub lift-back : ComesBack k x y z w (onFour (unlift k) (lift k x y z w))
     lift-back =
-        let xz = returned-so x₁ z₁ x₂ z₂ (unchanged x₂) (unchanged z₂) in
-        let wy = returned-so w₁ y₁ w₂ y₂ (unchanged w₂) (unchanged y₂) in
-        let zy = returned-so z y (second x₂ z₂) (second w₂ y₂) (xz .0) (wy .0) in
-        let xw = returned x w (lost x₁ z₁) (lost w₁ y₁) (first x₂ z₂) (first w₂ y₂) (xz .1) (wy .1) in
         record {
           a = lost x w;
           b = lost z y;
           c = lost x₁ z₁;
           d = lost w₁ y₁;
           bits = (bit x w, bit z y, bit x₁ z₁, bit w₁ y₁);
-          values =
-              undone
-              ∙ rw (
-                less _ (x + lost w₁ y₁) (lost x w + lost x₁ z₁) (first-lt _ _) (xw .1),
-                less _ z (lost z y) (first-lt _ _) (zy .1),
-                less _ w (lost x₁ z₁ + lost w₁ y₁) (plus-lt k _ _) (xw .0),
-                same-word (plus-lt k _ _) word (zy .0),
-              );
+          values = back-is;
         }
+
+  -- ---- multiples of four, of which no halving loses a bit
+
+  even : (h : ℕ) → (h + h) % 4 ≡ 0 → h % 2 ≡ 0
+  even h four =
+      let last : (h / 2 * 4 + 2 * (h % 2)) % 4 ≡ 2 * (h % 2) = digits-mod (h / 2) (omega arith) in
+      let parts : h + h ≡ h / 2 * 4 + 2 * (h % 2) = omega arith in
+      omega (arith, sym last ∙ ap (λ (n : ℕ). n % 4) (sym parts) ∙ four)
+
+  module _ (two : 2 ≤ k) where
+    -- the lowest bits of sums and differences, 2 ^ n being a divisor of 2 ^ k
+    plus-low : (n u v : ℕ) → n ≤ k → plus k u v % 2 ^ n ≡ (u + v) % 2 ^ n
+    unfolding plus
+    plus-low n u v h = low-low (u + v) k n h
+
+    -- of a pair of them the half is even, and what is left
+    module _ (u v : ℕ) (hu : u % 4 ≡ 0) (hv : v % 4 ≡ 0) where
+      sum-four : plus k u v % 4 ≡ 0
+      sum-four = plus-low 2 u v two ∙ omega arith
+
+      none-lost : lost u v ≡ 0
+      none-lost = omega (arith, sum-four)
+
+      halved-even : halved u v % 2 ≡ 0
+      halved-even =
+          let twice = ap (λ (n : ℕ). n % 4) (half-twice k (plus k u v) some (plus-lt k u v)) in
+          let four : (halved u v + halved u v) % 4 ≡ 0 = sym (plus-low 2 (halved u v) (halved u v) two) ∙ twice ∙ omega (arith, sum-four) in
+          even (halved u v) four
+
+      rest-even : v < m → rest u v % 2 ≡ 0
+      rest-even word =
+          let back = ap (λ (n : ℕ). n % 2) (plus-minus k v (halved u v) word (half-lt k _ some (plus-lt k u v))) in
+          omega (arith, sym (plus-low 1 (rest u v) (halved u v) some) ∙ back, halved-even)
+
+    none-lost-even : (u v : ℕ) → u % 2 ≡ 0 → v % 2 ≡ 0 → lost u v ≡ 0
+    none-lost-even u v hu hv = plus-low 1 u v some ∙ omega arith
+
+    minus-none : (u : ℕ) → u < m → minus k u 0 ≡ u
+    minus-none u word = sym (less u u 0 word (simp zero-add (record { up = 0; down = 0; same = omega arith })))
+
+    pub fours-back : (x y z w : ℕ) → x < m → y < m → z < m → w < m → x % 4 ≡ 0 → y % 4 ≡ 0 → z % 4 ≡ 0 → w % 4 ≡ 0
+        → onFour (unlift k) (lift k x y z w) ≡ x ∷ y ∷ z ∷ w ∷ []
+    fours-back x y z w hx hy hz hw fx fy fz fw =
+        back-is x y z w hy
+        ∙ rw (
+          none-lost x w fx fw,
+          none-lost z y fz fy,
+          none-lost-even (halved x w) (halved z y) (halved-even x w fx fw) (halved-even z y fz fy),
+          none-lost-even (rest x w) (rest z y) (rest-even x w fx fw hw) (rest-even z y fz fy hy),
+          add-zero x,
+          minus-none x hx,
+          minus-none z hz,
+          minus-none w hw,
+        )

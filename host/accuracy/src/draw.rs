@@ -80,7 +80,7 @@ pub fn fraction(random: &mut Random) -> f64 {
 }
 
 /// Readings in tenths of a degree, from -80.0 to 60.0, that change by at most a tenth along each axis, now and then by one more.
-pub fn readings(random: &mut Random, d: u32) -> Vec<u32> {
+pub fn tenths(random: &mut Random, d: u32) -> Vec<i32> {
     let mut tenths = vec![random.word_below(1401) as i32 - 800; block_len(d)];
     for axis in 0..d {
         let mut along = 0;
@@ -95,6 +95,12 @@ pub fn readings(random: &mut Random, d: u32) -> Vec<u32> {
     for reading in &mut tenths {
         *reading += i32::from(random.once_in(8));
     }
+    tenths
+}
+
+/// The same as floats in degrees, not all zero.
+pub fn readings(random: &mut Random, d: u32) -> Vec<u32> {
+    let mut tenths = tenths(random, d);
     if tenths.iter().all(|&reading| reading == 0) {
         tenths[0] = 1;
     }

@@ -14,6 +14,7 @@ mod digits;
 pub mod draw;
 pub mod ends;
 pub mod error;
+pub mod integers;
 pub mod model;
 pub mod report;
 pub mod run;

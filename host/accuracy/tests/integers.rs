@@ -1,0 +1,157 @@
+//! How far off lossy integers come back (document 02, M-107): by hand, of many blocks, and as docs/LOSSY.md says it.
+
+use accuracy::integers::{BOUNDS, Found, LARGEST, MOST_BITS, Sort, back, off, within};
+use random::{Random, rounds};
+use std::fs;
+use testing::repository;
+
+fn page() -> String {
+    fs::read_to_string(repository().join("docs/LOSSY.md")).expect("the page is there")
+}
+
+/// What a block comes back as from a slot of `width` bits in which all planes are.
+fn comes_back(width: u32, values: [i32; 4]) -> [i32; 4] {
+    let (done, block) = back(width, values).expect("the width is good");
+    assert_eq!([done.planes, block.planes], [32, 32], "{values:?} in {width} bits");
+    assert!(done.count <= MOST_BITS as usize, "{values:?} take {} bits", done.count);
+    block.values
+}
+
+/// What four words come back as, from the bits that the four halvings lose: of x + w, of z + y, of the sum of their halves,
+/// and of the sum of what is left of w and y. All of it is modulo 2^32.
+fn by_hand([x, y, z, w]: [i32; 4]) -> [i32; 4] {
+    let (outer, inner) = (x.wrapping_add(w), z.wrapping_add(y));
+    let (a, b) = (outer & 1, inner & 1);
+    let c = (outer >> 1).wrapping_add(inner >> 1) & 1;
+    let d = w.wrapping_sub(outer >> 1).wrapping_add(y.wrapping_sub(inner >> 1)) & 1;
+    [x.wrapping_sub(a + c).wrapping_add(d), y, z.wrapping_sub(b), w.wrapping_sub(c + d)]
+}
+
+#[test]
+fn no_value_is_further_off_and_each_bound_is_reached() {
+    for sort in Sort::ALL {
+        let found = Found::of(sort, rounds(20_000)).expect("a lossy store of integers is done");
+        for (place, bound) in BOUNDS.into_iter().enumerate() {
+            for off in bound {
+                assert!(found.has(place, off), "{sort:?}: value {place} is never off by {off}");
+            }
+        }
+    }
+}
+
+/// Every block of integers from -4 to 3, whose lowest bits are all there are.
+#[test]
+fn every_block_of_small_integers() {
+    let mut found = Vec::new();
+    for block in 0..1 << 12 {
+        let values = [9, 6, 3, 0].map(|shift| (block >> shift & 7) - 4);
+        let back = comes_back(MOST_BITS, values);
+        assert_eq!(back, by_hand(values));
+        found.push(off(values, back));
+    }
+    found.sort_unstable();
+    found.dedup();
+    assert_eq!(found.len(), 16, "one for each choice of four bits");
+    assert!(found.into_iter().all(within));
+}
+
+/// Whatever the slot's width and the sort of block.
+#[test]
+fn slots_of_every_width_from_131_bits() {
+    let mut random = Random::new(131);
+    for width in (MOST_BITS..=300).chain([1024, 8461, 8462]) {
+        for sort in Sort::ALL {
+            for _ in 0..rounds(20) {
+                let values = sort.draw(&mut random);
+                let back = comes_back(width, values);
+                assert!(within(off(values, back)), "{values:?} in {width} bits: {back:?}");
+                assert_eq!(back, by_hand(values));
+            }
+        }
+    }
+}
+
+/// The largest and the smallest of the range and of the values beside them, in all places.
+#[test]
+fn the_ends_of_the_range() {
+    let ends = [LARGEST, LARGEST - 1, 1, 0, -1, 1 - LARGEST, -LARGEST];
+    for block in 0..ends.len().pow(4) {
+        let values = [0, 1, 2, 3].map(|place| ends[block / ends.len().pow(place) % ends.len()]);
+        let back = comes_back(MOST_BITS, values);
+        assert!(within(off(values, back)), "{values:?}: {back:?}");
+    }
+}
+
+/// Out of the range too, modulo 2^32: from one end of the words a value can come back at the other.
+#[test]
+fn any_words_modulo_2_to_the_32() {
+    let mut random = Random::new(32);
+    let mut passed = 0;
+    for _ in 0..rounds(20_000) {
+        let near = random.pick(&[0, i32::MIN, i32::MAX]);
+        let size = random.pick(&[2, 8, 31, 32]);
+        let values = [0; 4].map(|_: i32| near.wrapping_add(random.word() as i32 >> (32 - size)));
+        let back = comes_back(MOST_BITS, values);
+        assert_eq!(back, by_hand(values), "{values:?}");
+        passed += usize::from(!within(off(values, back)));
+    }
+    assert!(passed > 0, "no value passed an end of the words");
+}
+
+/// Where a narrower slot has all planes, a value is no further off. This finds slots that have and slots that have not.
+#[test]
+fn narrower_slots_that_have_all_planes() {
+    let mut random = Random::new(128);
+    let mut slots = [0; 2];
+    for width in 16..MOST_BITS {
+        for sort in Sort::ALL {
+            let values = sort.draw(&mut random);
+            let (done, block) = back(width, values).expect("the width is good");
+            let whole = done.planes == 32;
+            slots[usize::from(whole)] += 1;
+            assert!(!whole || within(off(values, block.values)), "{values:?} in {width} bits: {block:?}");
+        }
+    }
+    assert!(slots.into_iter().all(|count| count > 100), "{slots:?}");
+}
+
+/// Its coefficients take 129 bits. The last of them is a one, and weighs 1 in the fourth coefficient.
+#[test]
+fn a_slot_of_128_bits_is_too_narrow() {
+    let values = [1, -LARGEST, -LARGEST, LARGEST];
+    assert_eq!(comes_back(129, values), [1, -LARGEST, -LARGEST, LARGEST - 2]);
+    let (done, block) = back(128, values).expect("the width is good");
+    assert_eq!([done.planes, block.planes], [31, 31]);
+    assert_eq!(off(values, block.values), [1, -1, 1, -3]);
+}
+
+/// The rows under a header of the page, cell by cell.
+fn rows<'a>(page: &'a str, header: &str) -> Vec<Vec<&'a str>> {
+    let (_, below) = page.split_once(header).unwrap_or_else(|| panic!("the page has no header {header}"));
+    let rows = below.lines().skip(2).take_while(|line| line.starts_with('|'));
+    rows.map(|row| row.trim_matches('|').split('|').map(str::trim).collect()).collect()
+}
+
+fn numbers<T: std::str::FromStr>(cell: &str) -> [T; 4] {
+    let number = |text: &str| text.replace(',', "").parse().unwrap_or_else(|_| panic!("{text} is no number"));
+    let numbers: Vec<T> = cell.split(' ').map(number).collect();
+    numbers.try_into().unwrap_or_else(|_| panic!("{cell} is not four numbers"))
+}
+
+/// Each row of the page's blocks: what is stored, what comes back, and by how much it is off. Each bound is in one of them.
+#[test]
+fn the_blocks_of_the_page() {
+    let page = page();
+    let blocks = rows(&page, "| stored | comes back | off by |");
+    let mut reached: [Vec<i64>; 4] = Default::default();
+    for row in &blocks {
+        let [stored, back, differ] = row[..] else { panic!("a row of three cells: {row:?}") };
+        let (stored, differ) = (numbers(stored), numbers::<i64>(differ));
+        assert_eq!(comes_back(MOST_BITS, stored), numbers(back));
+        assert_eq!(off(stored, numbers(back)), differ);
+        reached.iter_mut().zip(differ).for_each(|(reached, off)| reached.push(off));
+    }
+    for (reached, bound) in reached.iter().zip(BOUNDS) {
+        assert!([bound.start(), bound.end()].iter().all(|end| reached.contains(end)), "{reached:?}, {bound:?}");
+    }
+}
