@@ -20,7 +20,7 @@ use Rattle.transforms.specs.Four.{lift, unlift}
 use Rattle.transforms.specs.Losses.{ComesBack}
 use Rattle.transforms.specs.Calls.{onFour}
 use Rattle.transforms.proofs.Steps.{keeps-lift}
-use Rattle.transforms.proofs.Losses.{lift-back, fours-back}
+use Rattle.transforms.proofs.Losses.{lift-back, settled, fours-back}
 use Rattle.blocks.specs.Coefficients.{coefficients, values}
 use Rattle.blocks.proofs.Lines.{length-along, along-four}
 use Rattle.blocks.proofs.Whole.{length-coefficients, values-through}
@@ -32,7 +32,7 @@ use Rattle.slot_code.proofs.Depth.{depth-back}
 use Rattle.slots.specs.Outcome.{storeOutcome}
 use Rattle.claims.specs.Lowest.{twosComplement}
 use Rattle.claims.specs.Tolerance.{kept}
-use Rattle.claims.specs.HowFar.{Shelved, readAfter, Most, Within, thereAndBack, HowFarOff, TransformAlone, TransformWithin, OffByBits, FoursExact, HowFar}
+use Rattle.claims.specs.HowFar.{Shelved, readAfter, Most, Within, thereAndBack, HowFarOff, TransformAlone, TransformWithin, OffByBits, LosesOnce, FoursExact, HowFar}
 use Rattle.claims.specs.HowFar.{firstOff, secondOff, thirdOff, fourthOff}
 use Rattle.claims.proofs.CutScan.{stored-kept}
 use Rattle.claims.proofs.Stored.{at-place, storable, depth-stored, lossy-read}
@@ -126,6 +126,9 @@ through ws b =
 off-by-bits : OffByBits
 off-by-bits ws b = lift-back 32 (omega arith) (getD ws 0 0) (getD ws 1 0) (getD ws 2 0) (getD ws 3 0) (b .words 1)
 
+loses-once : LosesOnce
+loses-once ws = settled 32 (omega arith) (omega arith) (getD ws 0 0) (getD ws 1 0) (getD ws 2 0) (getD ws 3 0)
+
 fours-exact : FoursExact
 fours-exact ws b fours =
     fours-back 32 (omega arith) (omega arith) (getD ws 0 0) (getD ws 1 0) (getD ws 2 0) (getD ws 3 0)
@@ -190,4 +193,4 @@ how-far-off p archive k ws before s range wide =
     rw (transform-alone p archive k ws before s (reported p archive k ws before s (omega (arith, wide)))) (refl, transform-within ws (s .block) range)
 
 pub how-far : HowFar
-how-far = (how-far-off, transform-alone, transform-within, off-by-bits, fours-exact)
+how-far = (how-far-off, transform-alone, transform-within, off-by-bits, loses-once, fours-exact)

@@ -107,9 +107,13 @@ OffByBits =
     (ws : List ℕ) → IsBlock 1 ws
     → ComesBack 32 (getD ws 0 0) (getD ws 1 0) (getD ws 2 0) (getD ws 3 0) (thereAndBack ws)
 
+-- what has come back once loses no more: stored and read again it is the same
+abbrev pub LosesOnce : Type 0
+LosesOnce = (ws : List ℕ) → thereAndBack (thereAndBack ws) ≡ thereAndBack ws
+
 -- of multiples of four no halving loses a bit: they come back exact
 abbrev pub FoursExact : Type 0
 FoursExact = (ws : List ℕ) → IsBlock 1 ws → ((i : ℕ) → getD ws i 0 % 4 ≡ 0) → thereAndBack ws ≡ ws
 
 abbrev pub HowFar : Type 0
-HowFar = HowFarOff × TransformAlone × TransformWithin × OffByBits × FoursExact
+HowFar = HowFarOff × TransformAlone × TransformWithin × OffByBits × LosesOnce × FoursExact

@@ -15,15 +15,23 @@ pub const LARGEST: i32 = (1 << 30) - 1;
 /// How far off each value may come back: below 0 too low, above 0 too high.
 pub const BOUNDS: [RangeInclusive<i64>; 4] = [-2..=1, 0..=0, -1..=0, -2..=0];
 
+/// The blocks that the page counts.
+pub const BLOCKS: usize = 100_000;
+
 /// The differences that occur.
 const DIFFERENCES: RangeInclusive<i64> = -2..=1;
+
+/// Lossy integers with all planes, in slots of `width` bits.
+fn params(width: u32) -> Params {
+    Params::lossy_integers(Dimension::One, 32, width)
+}
 
 /// What four values were stored as and come back as, from a slot of `width` bits.
 ///
 /// # Errors
 /// None for a width from 16 to 8,462.
 pub fn back(width: u32, values: [i32; 4]) -> Result<(Done, Block<i32, 4>), Refusal> {
-    let params = Params::lossy_integers(Dimension::One, 32, width);
+    let params = params(width);
     let mut archive = vec![0; params.archive_len(1)?];
     let done = store_block(params, &mut archive, 0, &values)?;
     Ok((done, read_block(params, &archive, 0)?))
@@ -64,7 +72,9 @@ impl Sort {
             Sort::Readings => tenths(random, 1).try_into().expect("a block of dimension 1 is four values"),
             Sort::Small => [0; 4].map(|_: i32| random.word_below(8) as i32 - 4),
             Sort::Any => [0; 4].map(|_: i32| (random.word() as i32 >> 1).max(-LARGEST)),
-            Sort::Ends => [0; 4].map(|_: i32| random.pick(&[1, -1]) * (LARGEST - random.word_below(4) as i32)),
+            Sort::Ends => {
+                [0; 4].map(|_: i32| random.pick(&[1, -1]) * (LARGEST - random.word_below(4) as i32))
+            }
             Sort::Powers => [0; 4].map(|_: i32| {
                 let near = (1 << random.word_below(31)) + random.word_below(5) as i32 - 2;
                 random.pick(&[1, -1]) * near.min(LARGEST)
@@ -84,8 +94,8 @@ pub struct Found {
     pub counts: [[usize; 4]; 4],
     /// The bits of their codes.
     pub bits: usize,
-    /// Of the longest.
-    pub most: usize,
+    /// Of those of four times their values.
+    pub fours_bits: usize,
     /// The bits of their exact codes.
     pub exact_bits: usize,
 }
@@ -116,15 +126,26 @@ impl Found {
         }
         self.exact += usize::from(off == [0; 4]);
         self.bits += done.count;
-        self.most = self.most.max(done.count);
-        let words = values.map(|value| value as u32);
-        self.exact_bits += bit_count(Params::exact_integers(Dimension::One), &words)?.count;
+        let words = |times: i32| values.map(|value| value.wrapping_mul(times) as u32);
+        self.fours_bits += bit_count(params(MOST_BITS), &words(4))?.count;
+        self.exact_bits += bit_count(Params::exact_integers(Dimension::One), &words(1))?.count;
         Ok(())
     }
 
     /// Whether the value at a place has come back by so much off.
     pub fn has(&self, place: usize, off: i64) -> bool {
         self.counts[place][(off - DIFFERENCES.start()) as usize] > 0
+    }
+
+    /// The rows of the page's table of sizes.
+    pub fn size_rows(&self) -> [String; 4] {
+        let mean = |bits: usize| bits as f64 / self.blocks as f64;
+        [
+            format!("| mean bits of a block, lossy with P = 32 | {:.1} |", mean(self.bits)),
+            format!("| of four times the readings | {:.1} |", mean(self.fours_bits)),
+            format!("| exact | {:.1} |", mean(self.exact_bits)),
+            format!("| blocks that came back as they were | {} |", grouped(self.exact)),
+        ]
     }
 
     /// A row of the page's table of counts.

@@ -1,4 +1,5 @@
-//! How far lossy floats come back from what was stored, in units of 2^q, q being the lowest exponent.
+//! How far lossy readings come back from what was stored: integers (module [`integers`]), and floats, in units of 2^q, q
+//! being the lowest exponent. The rest of this page is about floats.
 //!
 //! A block is stored as lossy floats with P = 32, in a slot of 33N + 14 bits, which cuts nothing, and read back. Its
 //! error is the largest |back - value| / 2^q. With m from the block's largest exponent, k = m - q + 2 x (d + 1) planes
@@ -20,7 +21,7 @@ pub mod report;
 pub mod run;
 pub mod sizes;
 
-/// The example of docs/LOSSY.md is compiled and run.
+/// The examples of docs/LOSSY.md are compiled and run.
 #[cfg(doctest)]
 #[doc = include_str!("../../../docs/LOSSY.md")]
 struct Page;

@@ -2,12 +2,14 @@
 
 use accuracy::draw::Class;
 use accuracy::ends::ends;
+use accuracy::integers::{BLOCKS, Found, Sort};
 use accuracy::report::{ABOVE, above_row, argument_row, class_row, k_row, range_row, ranges, worst_block};
 use accuracy::run::{K, LONG, Measured, measure};
 use accuracy::sizes::{size_row, sizes};
 use accuracy::{ALL_PLANES, DIMENSIONS};
 use std::env;
 use std::process::ExitCode;
+use testing::grouped;
 
 fn main() -> ExitCode {
     let scale = match env::args().nth(1).map(|text| text.parse()) {
@@ -18,6 +20,7 @@ fn main() -> ExitCode {
             return ExitCode::from(2);
         }
     };
+    integers();
     let measured: Vec<Measured> = DIMENSIONS.map(|d| measure(d, scale)).into();
     tables(&measured);
     println!("\nBy each k:\n");
@@ -27,6 +30,17 @@ fn main() -> ExitCode {
     worst(&measured);
     infinities(scale);
     ExitCode::SUCCESS
+}
+
+fn integers() {
+    let found = Found::of(Sort::Readings, BLOCKS).expect("a lossy store of integers is done");
+    println!("| {} blocks of readings in tenths of a degree | |", grouped(BLOCKS));
+    println!("|---|---:|");
+    found.size_rows().iter().for_each(|row| println!("{row}"));
+    println!("\n| value | -2 | -1 | 0 | 1 |");
+    println!("|---|---:|---:|---:|---:|");
+    (0..4).for_each(|place| println!("{}", found.row(place)));
+    println!();
 }
 
 fn tables(measured: &[Measured]) {

@@ -1,9 +1,10 @@
 //! How far off lossy integers come back (document 02, M-107): by hand, of many blocks, and as docs/LOSSY.md says it.
 
-use accuracy::integers::{BOUNDS, Found, LARGEST, MOST_BITS, Sort, back, off, within};
+use accuracy::integers::{BLOCKS, BOUNDS, Found, LARGEST, MOST_BITS, Sort, back, off, within};
 use random::{Random, rounds};
 use std::fs;
 use testing::repository;
+use windlassow::{Block, Dimension, Params, read_block, store_block};
 
 fn page() -> String {
     fs::read_to_string(repository().join("docs/LOSSY.md")).expect("the page is there")
@@ -125,6 +126,32 @@ fn a_slot_of_128_bits_is_too_narrow() {
     assert_eq!(off(values, block.values), [1, -1, 1, -3]);
 }
 
+/// What has come back once is stored and read again, in and out of the range.
+#[test]
+fn a_second_time_loses_no_more() {
+    let mut random = Random::new(2);
+    for sort in Sort::ALL {
+        for _ in 0..rounds(2_000) {
+            let once = comes_back(MOST_BITS, sort.draw(&mut random));
+            assert_eq!(comes_back(MOST_BITS, once), once);
+            let once = comes_back(MOST_BITS, [0; 4].map(|_: i32| random.word() as i32));
+            assert_eq!(comes_back(MOST_BITS, once), once);
+        }
+    }
+}
+
+/// No halving loses a bit of them.
+#[test]
+fn multiples_of_four() {
+    let mut random = Random::new(4);
+    for sort in Sort::ALL {
+        for _ in 0..rounds(2_000) {
+            let fours = sort.draw(&mut random).map(|value| value & !3);
+            assert_eq!(comes_back(MOST_BITS, fours), fours);
+        }
+    }
+}
+
 /// The rows under a header of the page, cell by cell.
 fn rows<'a>(page: &'a str, header: &str) -> Vec<Vec<&'a str>> {
     let (_, below) = page.split_once(header).unwrap_or_else(|| panic!("the page has no header {header}"));
@@ -152,6 +179,49 @@ fn the_blocks_of_the_page() {
         reached.iter_mut().zip(differ).for_each(|(reached, off)| reached.push(off));
     }
     for (reached, bound) in reached.iter().zip(BOUNDS) {
-        assert!([bound.start(), bound.end()].iter().all(|end| reached.contains(end)), "{reached:?}, {bound:?}");
+        assert!(
+            [bound.start(), bound.end()].iter().all(|end| reached.contains(end)),
+            "{reached:?}, {bound:?}"
+        );
     }
+}
+
+/// A block of readings in tenths of a degree: the counts of the page's tables.
+#[test]
+fn the_counts_of_the_page() {
+    let page = page();
+    let found = Found::of(Sort::Readings, BLOCKS).expect("a lossy store of integers is done");
+    let rows = (0..4).map(|place| found.row(place)).chain(found.size_rows());
+    for row in rows {
+        assert!(page.contains(&row), "docs/LOSSY.md has not the row {row}");
+    }
+}
+
+/// The examples under "What it does not say".
+#[test]
+fn what_the_page_does_not_promise() {
+    let page = page();
+    let has = |text: &str| assert!(page.contains(text), "docs/LOSSY.md has not: {text}");
+    has("in 128 bits 1, -1073741823, -1073741823, 1073741823 come back off by 1, -1, 1 and -3");
+    has(
+        "With P = 31 the block 366 365 365 364 comes back as 367 363 365 361, with P = 28 as four times 368.",
+    );
+    assert_eq!(with_planes(31, [366, 365, 365, 364]), [367, 363, 365, 361]);
+    assert_eq!(with_planes(28, [366, 365, 365, 364]), [368; 4]);
+    has("-2147483648, 0, 0, -1 comes back as 2147483646, 0, 0, -2.");
+    assert_eq!(comes_back(MOST_BITS, [i32::MIN, 0, 0, -1]), [i32::MAX - 1, 0, 0, -2]);
+    has("as it does of these readings in 64 bits");
+    for readings in [[366, 366, 366, 365], [366, 365, 365, 364], [365, 366, 365, 364], [366; 4]] {
+        comes_back(64, readings);
+    }
+}
+
+/// What a block comes back as with fewer planes, in a slot that cuts none of them.
+fn with_planes(planes: u32, values: [i32; 4]) -> [i32; 4] {
+    let params = Params::lossy_integers(Dimension::One, planes, MOST_BITS);
+    let mut archive = [0; 17];
+    store_block(params, &mut archive, 0, &values).expect("a lossy store of integers is done");
+    let block: Block<i32, 4> = read_block(params, &archive, 0).expect("a lossy slot is read");
+    assert_eq!(block.planes, planes);
+    block.values
 }

@@ -1,6 +1,6 @@
 //! The comparison with libzfp, for some seconds; for minutes with `WINDLASSOW_LONG=1`.
 
-use random::{Random, is_long};
+use random::{Random, is_long, rounds};
 use reference::params::Mode;
 use reference::{Params, bits, planes};
 use testing::MIN_LOWEST;
@@ -79,8 +79,8 @@ fn the_examples_are_in_their_classes() {
 fn lossy_integers_above_libzfps_range() {
     let mut random = Random::new(8);
     let mut comparison = Comparison::new(lib());
-    for (dimension, rounds) in [(1, 10_000), (2, 10_000), (3, 2_000), (4, 500)] {
-        for _ in 0..if is_long() { 40 * rounds } else { rounds } {
+    for (dimension, count) in [(1, 10_000), (2, 10_000), (3, 2_000), (4, 500)] {
+        for _ in 0..rounds(count) {
             let mut words: Vec<u32> = (0..4usize.pow(dimension)).map(|_| random.word()).collect();
             // The two highest bits differ, so the magnitude of one word at least is 2^30 or more.
             words[0] = words[0] & 0xBFFF_FFFF | !words[0] >> 1 & 0x4000_0000;
@@ -95,6 +95,27 @@ fn lossy_integers_above_libzfps_range() {
             };
             let class = comparison.write(&p, &words).class;
             assert!(class.is_none() || dimension > 2 && class == Some(Class::TieOrder), "{p:?}");
+        }
+    }
+    none(&comparison.failures);
+}
+
+/// M-107: from slots that cut nothing both programs give the same integers back, as near to those stored as document 02 says.
+#[test]
+fn lossy_integers_come_back_alike() {
+    let mut random = Random::new(107);
+    let mut comparison = Comparison::new(lib());
+    for _ in 0..rounds(10_000) {
+        let width = random.between(131, 300);
+        let p = Params { kind: 0, dimension: 1, mode: 0, planes: 32, width, lowest: MIN_LOWEST };
+        let shift = random.between(1, 31);
+        let values = [0; 4].map(|_: i32| (random.word() as i32 >> shift).max(1 - (1 << 30)));
+        let written = comparison.write(&p, &values.map(|value| value as u32));
+        let slot = written.ours.expect("a lossy store of integers is done");
+        let read = comparison.read(&p, &slot, Origin::Both);
+        assert_eq!((written.class, read.class), (None, None), "{p:?} {values:?}");
+        for ((back, value), bound) in read.theirs.iter().zip(values).zip([-2..=1, 0..=0, -1..=0, -2..=0]) {
+            assert!(bound.contains(&(*back as i32 - value)), "{p:?} {values:?}: {:x?}", read.theirs);
         }
     }
     none(&comparison.failures);
