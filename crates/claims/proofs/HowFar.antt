@@ -32,7 +32,8 @@ use Rattle.slot_code.proofs.Depth.{depth-back}
 use Rattle.slots.specs.Outcome.{storeOutcome}
 use Rattle.claims.specs.Lowest.{twosComplement}
 use Rattle.claims.specs.Tolerance.{kept}
-use Rattle.claims.specs.HowFar.{Shelved, readAfter, Most, Within, thereAndBack, HowFarOff, TransformAlone, TransformWithin, OffByBits, LosesOnce, FoursExact, HowFar}
+use Rattle.claims.specs.HowFar.{FourStored, readAfter, Most, Within, thereAndBack}
+use Rattle.claims.specs.HowFar.{HowFarOff, TransformAlone, TransformWithin, OffByBits, LosesOnce, FoursExact, HowFar}
 use Rattle.claims.specs.HowFar.{firstOff, secondOff, thirdOff, fourthOff}
 use Rattle.claims.proofs.CutScan.{stored-kept}
 use Rattle.claims.proofs.Stored.{at-place, storable, depth-stored, lossy-read}
@@ -135,19 +136,19 @@ fours-exact ws b fours =
     (b .words 0) (b .words 1) (b .words 2) (b .words 3) (fours 0) (fours 1) (fours 2) (fours 3)
     ∙ tabulate-getD ws 4 (b .long)
 
-module _ (p : Params) (archive : List ℕ) (k : ℕ) (ws before : List ℕ) (s : Shelved p archive k ws before) where
+module _ (p : Params) (archive : List ℕ) (k : ℕ) (ws before : List ℕ) (s : FourStored p archive k ws before) where
   abbrev cs : List ℕ
   cs = coefficients 32 false 1 ws
 
   integers : float p ≡ false
-  integers = ap (λ (n : ℕ). eqb n 1) (s .shelf .kind)
+  integers = ap (λ (n : ℕ). eqb n 1) (s .params .kind)
 
   lossy : exact p ≡ false
-  lossy = ap (λ (n : ℕ). eqb n 1) (s .shelf .lossy)
+  lossy = ap (λ (n : ℕ). eqb n 1) (s .params .lossy)
 
   coded : codedPlanes p ws ≡ 32
   unfolding codedPlanes
-  coded = rw integers (s .shelf .planes)
+  coded = rw integers (s .params .planes)
 
   -- all planes are within a slot of the most bits that they take
   reported : mostBits 4 32 ≤ widthOf p → storeOutcome p archive k ws .planes ≡ 32
@@ -155,7 +156,7 @@ module _ (p : Params) (archive : List ℕ) (k : ℕ) (ws before : List ℕ) (s :
   reported wide =
       let us = coefficients 32 false (p .dimension) ws in
       let order = in-order (p .dimension) (at-place p archive k ws (s .done) .good .dimension) in
-      let long : length us ≡ 4 = length-coefficients (p .dimension) order 32 false ws ∙ ap (λ (d : ℕ). 4 ^ d) (s .shelf .dimension) in
+      let long : length us ≡ 4 = length-coefficients (p .dimension) order 32 false ws ∙ ap (λ (d : ℕ). 4 ^ d) (s .params .dimension) in
       let fits : length (planesCode 32 32 us) ≤ widthOf p = omega (arith, wide, rw long at (bound 32 32 us (omega (arith, long)))) in
       depth-stored p archive k ws (s .done) ∙ rw (integers, lossy, coded) (all-within 32 32 (widthOf p) us fits)
 
@@ -167,7 +168,7 @@ module _ (p : Params) (archive : List ℕ) (k : ℕ) (ws before : List ℕ) (s :
       let found = depth-back p (place .good .dimension) ws (storable p archive k ws (s .done) .1) ∙ depth in
       let words = stored-kept p ws (place .good) lossy (λ f. absurd (false≢true (sym integers ∙ f))) (depth ∙ sym coded) in
       lossy-read p archive k ws lossy (s .done) before (s .room ∙ sym (s .block .long))
-      ∙ rw (found, words, integers, coded, s .shelf .dimension, all-kept cs, through ws (s .block))
+      ∙ rw (found, words, integers, coded, s .params .dimension, all-kept cs, through ws (s .block))
 
 -- ---- how far off
 

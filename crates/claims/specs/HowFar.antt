@@ -17,7 +17,7 @@ use Rattle.claims.specs.Lowest.{twosComplement}
 -- ---- of what it is said
 
 -- "dimension 1, kind 0, lossy, P = 32"
-pub record LossyShelf (p : Params) : Type 0 where
+pub record LossyFour (p : Params) : Type 0 where
   pub dimension : p .dimension ≡ 1
   pub kind : p .kind ≡ 0
   pub lossy : p .mode ≡ 0
@@ -36,8 +36,8 @@ abbrev pub readAfter : Params → List ℕ → ℕ → List ℕ → List ℕ →
 readAfter p archive k ws before = readOutcome p (length archive) k (slotIn p (storeOutcome p archive k ws .bits) k) before
 
 -- a block that was stored, and a buffer for it
-pub record Shelved (p : Params) (archive : List ℕ) (k : ℕ) (ws before : List ℕ) : Type 0 where
-  pub shelf : LossyShelf p
+pub record FourStored (p : Params) (archive : List ℕ) (k : ℕ) (ws before : List ℕ) : Type 0 where
+  pub params : LossyFour p
   pub block : IsBlock 1 ws
   pub done : storeOutcome p archive k ws .answer ≡ 0
   pub room : length before ≡ 4
@@ -77,7 +77,7 @@ EachWithin ws back =
 -- "W at least 131": the most that four words take in 32 planes is 4 x 32 + 3 bits, by demand 3, so no code is cut
 abbrev pub HowFarOff : Type 0
 HowFarOff =
-    (p : Params) (archive : List ℕ) (k : ℕ) (ws before : List ℕ) → Shelved p archive k ws before → InRange ws → 131 ≤ widthOf p
+    (p : Params) (archive : List ℕ) (k : ℕ) (ws before : List ℕ) → FourStored p archive k ws before → InRange ws → 131 ≤ widthOf p
     → (readAfter p archive k ws before .answer ≡ 0) × EachWithin ws (readAfter p archive k ws before .words)
 
 -- of one block and another, value i comes back as far off as it may: `low` too low and `high` too high (the table's `BoundsReached`)
@@ -93,7 +93,7 @@ thereAndBack ws = onFour (unlift 32) (onFour (lift 32) ws)
 -- that is what comes back wherever the store reports all planes, in a slot of whatever width
 abbrev pub TransformAlone : Type 0
 TransformAlone =
-    (p : Params) (archive : List ℕ) (k : ℕ) (ws before : List ℕ) → Shelved p archive k ws before → storeOutcome p archive k ws .planes ≡ 32
+    (p : Params) (archive : List ℕ) (k : ℕ) (ws before : List ℕ) → FourStored p archive k ws before → storeOutcome p archive k ws .planes ≡ 32
     → readAfter p archive k ws before ≡ record { answer = 0; count = 4; planes = 32; words = thereAndBack ws }
 
 -- and it is off by no more

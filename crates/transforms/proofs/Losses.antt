@@ -61,7 +61,7 @@ module _ (k : ℕ) (some : 0 < k) where
       let d = minus-alike n e in
       same-word word (minus-lt k n e) (record { up = s .up + d .down; down = s .down + d .up; same = omega (arith, s .same, d .same) })
 
-  -- ---- a pair of steps: u+=v, halve u, v-=u; and in reading v+=u, u=2u-v
+  -- ---- a pair of steps, u+=v, halve u, v-=u: the half of u + v, what is left of v, and the bit that is lost
 
   abbrev halved : ℕ → ℕ → ℕ
   halved u v = half k (plus k u v)
@@ -72,6 +72,7 @@ module _ (k : ℕ) (some : 0 < k) where
   abbrev lost : ℕ → ℕ → ℕ
   lost u v = plus k u v % 2
 
+  -- and in reading, v+=u, u=2u-v, what is made of a half s and of t, which was left: v, and then u
   abbrev second : ℕ → ℕ → ℕ
   second s t = plus k t s
 
@@ -82,16 +83,16 @@ module _ (k : ℕ) (some : 0 < k) where
   unfolding twiceLess
   first-lt s t = minus-lt k _ _
 
-  -- s and t are what the steps made, each too low by an error; what reading makes of them is too low by these and by the bit lost
+  -- s and t come to reading too low by errors e and f: then v comes back too low by e + f, and u by the bit lost and e, less f
   module _ (u v e f s t : ℕ) (hs : Alike m (e + s) (halved u v)) where
     second-back : Alike m (f + t) (rest u v) → Alike m (e + f + second s t) v
     second-back ht =
         let sum = plus-alike t s in
-        let less = minus-alike v (halved u v) in
+        let left = minus-alike v (halved u v) in
         record {
-          up = hs .up + ht .up + sum .up + less .up;
-          down = hs .down + ht .down + sum .down + less .down;
-          same = omega (arith, hs .same, ht .same, sum .same, less .same);
+          up = hs .up + ht .up + sum .up + left .up;
+          down = hs .down + ht .down + sum .down + left .down;
+          same = omega (arith, hs .same, ht .same, sum .same, left .same);
         }
 
     first-back : Alike m (e + f + second s t) v → Alike m (lost u v + e + first s t) (u + f)
@@ -100,11 +101,11 @@ module _ (k : ℕ) (some : 0 < k) where
         let sum = plus-alike u v in
         let half = half-alike (plus k u v) (plus-lt k u v) in
         let twice = plus-alike s s in
-        let less = minus-alike (plus k s s) (second s t) in
+        let left = minus-alike (plus k s s) (second s t) in
         record {
-          up = sum .up + half .up + 2 * hs .up + twice .up + less .up + hv .down;
-          down = sum .down + half .down + 2 * hs .down + twice .down + less .down + hv .up;
-          same = omega (arith, sum .same, half .same, hs .same, twice .same, less .same, hv .same);
+          up = sum .up + half .up + 2 * hs .up + twice .up + left .up + hv .down;
+          down = sum .down + half .down + 2 * hs .down + twice .down + left .down + hv .up;
+          same = omega (arith, sum .same, half .same, hs .same, twice .same, left .same, hv .same);
         }
 
     returned : Alike m (f + t) (rest u v) → Alike m (e + f + second s t) v × Alike m (lost u v + e + first s t) (u + f)
