@@ -4,8 +4,8 @@ use mathlib.Core.List.{List, [], _∷_}
 use Prim.Native.Nat.{ℕ, _+_, _≤_}
 use Rattle.words.specs.Word.{minus}
 
--- x - a - c + d, y, z - b and w - c - d, modulo 2^k. Each of a, b, c and d is a bit, the one that a halving lost: of x + w, of z + y, of the sum of their two
--- halves, and of the sum of what is left of w and y
+-- x - a - c + d, y, z - b and w - c - d, modulo 2^k, for some bits a, b, c and d. (They are those that the four halvings lose: of x + w, of z + y, of the sum of
+-- their halves, and of the sum of what is left of w and y.)
 pub record ComesBack (k x y z w : ℕ) (back : List ℕ) : Type 0 where
   pub a : ℕ
   pub b : ℕ
