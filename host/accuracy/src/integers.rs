@@ -3,17 +3,9 @@
 use crate::draw::tenths;
 use random::Random;
 use std::ops::RangeInclusive;
+use testing::by_hand::integers::{LARGEST, MOST_BITS, off, within};
 use testing::grouped;
 use windlassow::{Block, Dimension, Done, Params, Refusal, bit_count, read_block, store_block};
-
-/// The most bits that four words take in 32 planes, 4 x 32 + 3: a slot of so many cuts nothing.
-pub const MOST_BITS: u32 = 131;
-
-/// Values are from -LARGEST to LARGEST.
-pub const LARGEST: i32 = (1 << 30) - 1;
-
-/// How far off each value may come back: below 0 too low, above 0 too high.
-pub const BOUNDS: [RangeInclusive<i64>; 4] = [-2..=1, 0..=0, -1..=0, -2..=0];
 
 /// The blocks that the page counts.
 pub const BLOCKS: usize = 100_000;
@@ -35,16 +27,6 @@ pub fn back(width: u32, values: [i32; 4]) -> Result<(Done, Block<i32, 4>), Refus
     let mut archive = vec![0; params.archive_len(1)?];
     let done = store_block(params, &mut archive, 0, &values)?;
     Ok((done, read_block(params, &archive, 0)?))
-}
-
-/// How far off each value came back.
-pub fn off(values: [i32; 4], back: [i32; 4]) -> [i64; 4] {
-    [0, 1, 2, 3].map(|place| i64::from(back[place]) - i64::from(values[place]))
-}
-
-/// Whether each value is within its bounds.
-pub fn within(off: [i64; 4]) -> bool {
-    BOUNDS.iter().zip(off).all(|(bound, off)| bound.contains(&off))
 }
 
 /// Sorts of blocks.

@@ -1,8 +1,9 @@
 //! How far off lossy integers come back (document 02, M-107): by hand, of many blocks, and as docs/LOSSY.md says it.
 
-use accuracy::integers::{BLOCKS, BOUNDS, Found, LARGEST, MOST_BITS, Sort, back, off, within};
+use accuracy::integers::{BLOCKS, Found, Sort, back};
 use random::{Random, rounds};
 use std::fs;
+use testing::by_hand::integers::{self as by_hand, BOUNDS, LARGEST, MOST_BITS, blocks_of, off, within};
 use testing::repository;
 use windlassow::{Block, Dimension, Params, read_block, store_block};
 
@@ -16,16 +17,6 @@ fn comes_back(width: u32, values: [i32; 4]) -> [i32; 4] {
     assert_eq!([done.planes, block.planes], [32, 32], "{values:?} in {width} bits");
     assert!(done.count <= MOST_BITS as usize, "{values:?} take {} bits", done.count);
     block.values
-}
-
-/// What four words come back as, from the bits that the four halvings lose: of x + w, of z + y, of the sum of their halves,
-/// and of the sum of what is left of w and y. All of it is modulo 2^32.
-fn by_hand([x, y, z, w]: [i32; 4]) -> [i32; 4] {
-    let (outer, inner) = (x.wrapping_add(w), z.wrapping_add(y));
-    let (a, b) = (outer & 1, inner & 1);
-    let c = (outer >> 1).wrapping_add(inner >> 1) & 1;
-    let d = w.wrapping_sub(outer >> 1).wrapping_add(y.wrapping_sub(inner >> 1)) & 1;
-    [x.wrapping_sub(a + c).wrapping_add(d), y, z.wrapping_sub(b), w.wrapping_sub(c + d)]
 }
 
 #[test]
@@ -44,10 +35,9 @@ fn no_value_is_further_off_and_each_bound_is_reached() {
 #[test]
 fn every_block_of_small_integers() {
     let mut found = Vec::new();
-    for block in 0..1 << 12 {
-        let values = [9, 6, 3, 0].map(|shift| (block >> shift & 7) - 4);
+    for values in blocks_of(&[-4, -3, -2, -1, 0, 1, 2, 3]) {
         let back = comes_back(MOST_BITS, values);
-        assert_eq!(back, by_hand(values));
+        assert_eq!(back, by_hand::back(values));
         found.push(off(values, back));
     }
     found.sort_unstable();
@@ -66,7 +56,7 @@ fn slots_of_every_width_from_131_bits() {
                 let values = sort.draw(&mut random);
                 let back = comes_back(width, values);
                 assert!(within(off(values, back)), "{values:?} in {width} bits: {back:?}");
-                assert_eq!(back, by_hand(values));
+                assert_eq!(back, by_hand::back(values));
             }
         }
     }
@@ -75,9 +65,7 @@ fn slots_of_every_width_from_131_bits() {
 /// The largest and the smallest of the range and of the values beside them, in all places.
 #[test]
 fn the_ends_of_the_range() {
-    let ends = [LARGEST, LARGEST - 1, 1, 0, -1, 1 - LARGEST, -LARGEST];
-    for block in 0..ends.len().pow(4) {
-        let values = [0, 1, 2, 3].map(|place| ends[block / ends.len().pow(place) % ends.len()]);
+    for values in blocks_of(&[LARGEST, LARGEST - 1, 1, 0, -1, 1 - LARGEST, -LARGEST]) {
         let back = comes_back(MOST_BITS, values);
         assert!(within(off(values, back)), "{values:?}: {back:?}");
     }
@@ -93,7 +81,7 @@ fn any_words_modulo_2_to_the_32() {
         let size = random.pick(&[2, 8, 31, 32]);
         let values = [0; 4].map(|_: i32| near.wrapping_add(random.word() as i32 >> (32 - size)));
         let back = comes_back(MOST_BITS, values);
-        assert_eq!(back, by_hand(values), "{values:?}");
+        assert_eq!(back, by_hand::back(values), "{values:?}");
         passed += usize::from(!within(off(values, back)));
     }
     assert!(passed > 0, "no value passed an end of the words");

@@ -1,5 +1,6 @@
-//! Orders and blocks worked out by hand for every dimension.
+//! Orders and blocks worked out by hand for every dimension, and lossy integers.
 
+pub mod integers;
 pub mod planes;
 
 /// The places of a cube in the order of their coefficients, written out from the rule: a line for each sum of the

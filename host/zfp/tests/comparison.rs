@@ -4,6 +4,7 @@ use random::{Random, is_long, rounds};
 use reference::params::Mode;
 use reference::{Params, bits, planes};
 use testing::MIN_LOWEST;
+use testing::by_hand::integers::{LARGEST, MOST_BITS, off, within};
 use zfp::bits::{bits_of, padded};
 use zfp::classes::{Call, Class};
 use zfp::compare::Comparison;
@@ -106,17 +107,16 @@ fn lossy_integers_come_back_alike() {
     let mut random = Random::new(107);
     let mut comparison = Comparison::new(lib());
     for _ in 0..rounds(10_000) {
-        let width = random.between(131, 300);
+        let width = random.between(MOST_BITS, 300);
         let p = Params { kind: 0, dimension: 1, mode: 0, planes: 32, width, lowest: MIN_LOWEST };
         let shift = random.between(1, 31);
-        let values = [0; 4].map(|_: i32| (random.word() as i32 >> shift).max(1 - (1 << 30)));
+        let values = [0; 4].map(|_: i32| (random.word() as i32 >> shift).max(-LARGEST));
         let written = comparison.write(&p, &values.map(|value| value as u32));
         let slot = written.ours.expect("a lossy store of integers is done");
         let read = comparison.read(&p, &slot, Origin::Both);
         assert_eq!((written.class, read.class), (None, None), "{p:?} {values:?}");
-        for ((back, value), bound) in read.theirs.iter().zip(values).zip([-2..=1, 0..=0, -1..=0, -2..=0]) {
-            assert!(bound.contains(&(*back as i32 - value)), "{p:?} {values:?}: {:x?}", read.theirs);
-        }
+        let back = [0, 1, 2, 3].map(|place| read.theirs[place] as i32);
+        assert!(within(off(values, back)), "{p:?} {values:?}: {back:?}");
     }
     none(&comparison.failures);
 }
