@@ -4,7 +4,7 @@ use accuracy::integers::{BLOCKS, Found, Sort, back};
 use random::{Random, rounds};
 use std::fs;
 use testing::by_hand::integers::{self as by_hand, BOUNDS, LARGEST, MOST_BITS, blocks_of, off, within};
-use testing::repository;
+use testing::{grouped, repository};
 use windlassow::{Block, Dimension, Params, read_block, store_block};
 
 fn page() -> String {
@@ -151,6 +151,22 @@ fn numbers<T: std::str::FromStr>(cell: &str) -> [T; 4] {
     let number = |text: &str| text.replace(',', "").parse().unwrap_or_else(|_| panic!("{text} is no number"));
     let numbers: Vec<T> = cell.split(' ').map(number).collect();
     numbers.try_into().unwrap_or_else(|_| panic!("{cell} is not four numbers"))
+}
+
+/// The page's table of bounds, and the range and the width for which it says them.
+#[test]
+fn the_bounds_of_the_page() {
+    let page = page();
+    let found = rows(&page, "| value | at most too low by | at most too high by |");
+    let names = ["first", "second", "third", "fourth"];
+    let bounds = names.into_iter().zip(BOUNDS).map(|(name, bound)| {
+        vec![name.to_string(), bound.start().unsigned_abs().to_string(), bound.end().to_string()]
+    });
+    assert!(found.into_iter().eq(bounds), "docs/LOSSY.md has other bounds");
+    let largest = grouped(LARGEST as usize);
+    for text in [format!("slots of {MOST_BITS} bits or more"), format!("from -{largest} to {largest}")] {
+        assert!(page.contains(&text), "docs/LOSSY.md has not: {text}");
+    }
 }
 
 /// Each row of the page's blocks: what is stored, what comes back, and by how much it is off. Each bound is in one of them.
