@@ -73,8 +73,8 @@
  *   mode       0: lossy, the code is cut at the slot's end; 1: exact, the words come back bit for bit
  *   planes     the number of bit planes kept, 1 to 32; exact mode takes no other notice of it. Lossy
  *              integers lose a little with all 32: in dimension 1, with W at least 131 and magnitudes
- *              below 2^30, the second value comes back exact, the others at most 2, 1 and 2 too low, the
- *              first at most 1 too high, which is proved (docs/LOSSY.md)
+ *              below 2^30, the second value comes back exact, the others at most 2, 1 and 2 too low, and
+ *              none too high but the first, by at most 1, which is proved (docs/LOSSY.md)
  *   width      the bits W of a slot; 0 stands for 33N + 14 bits in exact mode, a full slot, which every
  *              block fits, and for 8 bits a word in lossy mode
  *   lowest     lossy floats: the lowest exponent q, -300 to 300. Of a block at most

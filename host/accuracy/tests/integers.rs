@@ -104,6 +104,20 @@ fn narrower_slots_that_have_all_planes() {
     assert!(slots.into_iter().all(|count| count > 100), "{slots:?}");
 }
 
+/// No block takes all the bits of the bound: 129 in the range, 130 out of it. So says docs/DECISIONS.md, choice 86.
+#[test]
+fn the_longest_codes() {
+    let mut random = Random::new(130);
+    let bits = |values| back(MOST_BITS, values).expect("the width is good").0.count;
+    let mut most = [0; 2];
+    for _ in 0..rounds(20_000) {
+        let sort = random.pick(&[Sort::Any, Sort::Ends, Sort::Powers]);
+        most[0] = bits(sort.draw(&mut random)).max(most[0]);
+        most[1] = bits([0; 4].map(|_: i32| random.word() as i32)).max(most[1]);
+    }
+    assert_eq!(most, [129, 130]);
+}
+
 /// Its coefficients take 129 bits. The last of them is a one, and weighs 1 in the fourth coefficient.
 #[test]
 fn a_slot_of_128_bits_is_too_narrow() {

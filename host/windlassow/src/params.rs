@@ -161,7 +161,8 @@ impl Params {
 
     /// Integers of which at most `planes` planes (1 to 32) are kept, in slots of `width` bits. With all 32 planes and a width of
     /// 131 or more, four values (dimension 1) up to 2^30 - 1 in magnitude come back like this: the first at most two too low and
-    /// at most one too high, the second exact, the third at most one and the fourth at most two too low; see docs/LOSSY.md.
+    /// at most one too high, the second exact, the third at most one and the fourth at most two too low, neither ever too high;
+    /// that is proved, see docs/LOSSY.md.
     pub const fn lossy_integers(dimension: Dimension, planes: u32, width: u32) -> Params {
         Params::new(Kind::Integers, dimension, Mode::Lossy, planes, width)
     }
