@@ -1,0 +1,77 @@
+// A part of a plane, at most 16 places, as a number: its bits gathered, and what its tests and scans write. No buffer is lent to test and scan, so that
+// their cycle becomes a loop.
+ghost use mathlib.Core.Path.{_≡_};
+ghost use mathlib.Core.Bool.{Bool, true, false};
+ghost use mathlib.Core.List.{List, _++_};
+ghost use Prim.Native.Nat.{_+_, _*_, _^_, _≤_, _<_};
+ghost use lib.ListN.{length, getD};
+ghost use lib.Seq.{slice};
+ghost use Rattle.bits.specs.Stream.{bit, digit, numberOf};
+ghost use Rattle.planes.specs.Coder.{plane, test, scan};
+ghost use Rattle.plane_parts.specs.Calls.{Part, PartCode, leftAfter};
+
+// Bit k of word i.
+fn bit_at(words: &[u64], k: u32, i: usize) -> bool
+    requires { ⌜ (k < 64) × (i < length (now words)) ⌝ }
+    ensures { λ r. ⌜ r ≡ bit k (getD (now (words .entry)) i 0) ⌝ }
+{
+    (words[i] >> k) % 2 == 1
+}
+
+// The number that has `count` bits of plane k from place `from` on, lowest first, and one more bit above them.
+pub fn gather(words: &[u64], k: u32, from: usize, count: usize, above: u32) -> u32
+    requires { ⌜ (k < 64) × (from + count ≤ length (now words)) × (count ≤ 16) × (above ≤ 1) ⌝ }
+    ensures { λ r. ⌜ r ≡ numberOf (slice from (from + count) (plane k (now (words .entry)))) + 2 ^ count * above ⌝ }
+{
+    let mut i = count;
+    let mut v = above;
+    while 0 < i {
+        i -= 1;
+        v = bits::with_digit(v, bit_at(words, k, from + i));
+    }
+    v
+}
+
+// A one above the first `count` bits of a code.
+fn with_one(code: u64, count: u32) -> u64
+    requires { ⌜ (count ≤ 48) × (code < 2 ^ count) ⌝ }
+    ensures { λ r. ⌜ (r ≡ code + 2 ^ count) × (r < 2 ^ (count + 1)) ⌝ }
+{
+    code + (1u64 << count)
+}
+
+// The test of m places, whose bits are the lowest of x; above them x has a one if ones follow after these places. A part that ends a plane has the spare
+// place whose bit is never written. The bits written go to the code, from bit `count` on; how many there are then.
+pub fn test(x: u32, m: u32, spare: u32, count: u32, code: &mut u64) -> u32
+    requires { ⌜ (spare ≤ m) × (spare ≤ 1) × (count + 2 * m ≤ 47) × (now code < 2 ^ count) ⌝ }
+    ensures { λ r. ⌜ ((bs rest : List Bool) → Part x m spare bs rest
+        → PartCode count (now (code .entry)) (test (bs ++ rest)) (leftAfter true bs rest) r (now (code .exit)))
+        × (r ≤ count + 2 * m + 1) × (now (code .exit) < 2 ^ r) ⌝ }
+{
+    if x == 0 {
+        return count + 1;
+    }
+    if m == 0 {
+        return count;
+    }
+    *code = with_one(*code, count);
+    scan(x, m, spare, count + 1, code)
+}
+
+// The scan of m places, in which or after which there is a one.
+pub fn scan(x: u32, m: u32, spare: u32, count: u32, code: &mut u64) -> u32
+    requires { ⌜ (0 < x) × (spare ≤ m) × (spare ≤ 1) × (count + 2 * m ≤ 48) × (now code < 2 ^ count) ⌝ }
+    ensures { λ r. ⌜ ((bs rest : List Bool) → Part x m spare bs rest
+        → PartCode count (now (code .entry)) (scan (bs ++ rest)) (leftAfter false bs rest) r (now (code .exit)))
+        × (r ≤ count + 2 * m) × (now (code .exit) < 2 ^ r) ⌝ }
+{
+    if m == spare {
+        return count;
+    }
+    if x % 2 == 1 {
+        *code = with_one(*code, count);
+        test(x / 2, m - 1, spare, count + 1, code)
+    } else {
+        scan(x / 2, m - 1, spare, count + 1, code)
+    }
+}
