@@ -7,7 +7,7 @@ use native.Mathlib.Nat.{add-comm, mul-comm}
 use native.Mathlib.Omega.{arith}
 use lib.Arith.{digits-lt}
 use lib.ListN.{length, length-append}
-use lib.Pow.{high, pow-add, shr-lt}
+use lib.Pow.{high, pow-add, shr-lt, shl-exact}
 use Rattle.bits.specs.declared.Cursor.{Cursor}
 use Rattle.bits.specs.Stream.{numberBits}
 use Rattle.bits.specs.Writes.{mostWrites}
@@ -24,6 +24,10 @@ above-bits k c b v h = rw (add-comm b (v * 2 ^ k), numberBits-add k c (v * 2 ^ k
 
 pub above-lt : (k c b v : ℕ) → b < 2 ^ k → v < 2 ^ c → b + v * 2 ^ k < 2 ^ (k + c)
 above-lt k c b v h j = rw (add-comm b (v * 2 ^ k), pow-add 2 k c, mul-comm (2 ^ k) (2 ^ c)) (digits-lt j h)
+
+-- a number of at most 32 bits loses none where it is moved up
+pub moved-exact : (k c v : ℕ) → v < 2 ^ c → c ≤ 32 → k < 16 → v * 2 ^ k % 2 ^ 64 ≡ v * 2 ^ k
+moved-exact k c v h i j = shl-exact c k 64 h (omega arith)
 
 -- ---- the loop of `push`
 
@@ -62,10 +66,10 @@ partly-more {bits = bits} {left} {c} {out = out} {next} p e h w two =
       cheap = omega (arith, p .cheap);
     }
 
-pub partly-pushed : {before after : List ℕ} {limit v count bits left : ℕ} {w : Pending} {out : Cursor} → Ready w
+pub partly-pushed : {before after : List ℕ} {limit bits left : ℕ} {w : Pending} {out : Cursor} (v count : ℕ) → Ready w
     → Partly before after limit (w .out) (w .bits + v * 2 ^ w .count) (w .count + count) out bits left → left + out .at % 8 < 16
     → Pushed before after w limit (numberBits count v) (record { out = out; bits = bits; count = left })
-partly-pushed {v = v} {count} {w = w} r p h =
+partly-pushed {w = w} v count r p h =
     record {
       stored = p .stored;
       split = sym (above-bits (w .count) count (w .bits) v (r .held)) ∙ p .split;
@@ -79,8 +83,8 @@ partly-pushed {v = v} {count} {w = w} r p h =
 pub start-ready : (out : Cursor) → out .writes ≤ out .at → Ready (record { out = out; bits = 0; count = 0 })
 start-ready out h = record { held = omega arith; short = omega arith; fair = h }
 
-pub pushed-none : {w : Pending} (bytes : List ℕ) (limit : ℕ) → Ready w → Pushed bytes bytes w limit [] w
-pushed-none {w} bytes limit r =
+pub pushed-none : {bytes : List ℕ} {w : Pending} {limit : ℕ} → Ready w → Pushed bytes bytes w limit [] w
+pushed-none {bytes} {w} {limit} r =
     record {
       stored = [];
       split = append-nil (numberBits (w .count) (w .bits));
@@ -88,6 +92,10 @@ pushed-none {w} bytes limit r =
       ready = r;
       cheap = omega arith;
     }
+
+-- the bits held back
+abbrev held : Pending → List Bool
+held w = numberBits (w .count) (w .bits)
 
 pub pushed-append : {before mid after : List ℕ} {limit : ℕ} {c₁ c₂ : List Bool} {w₁ w₂ w₃ : Pending} → Pushed before mid w₁ limit c₁ w₂
     → Pushed mid after w₂ limit c₂ w₃ → Pushed before after w₁ limit (c₁ ++ c₂) w₃
@@ -101,9 +109,6 @@ pushed-append {c₁ = c₁} {c₂} {w₁} {w₂} {w₃} p q =
       ready = q .ready;
       cheap = omega (arith, p .cheap, q .cheap);
     }
-  where
-    abbrev held : Pending → List Bool
-    held w = numberBits (w .count) (w .bits)
 
 -- ---- places and counts
 

@@ -49,8 +49,12 @@ module _ (l : List ℕ) (out : Cursor) (v : ℕ) (whole : out .at % 8 ≡ 0) (ro
       record {
         bits = two-stored ∙ sym (write-whole (bitsOf l) (out .at) (out .at + 16) (numberBits 16 v) (omega (arith, bits)));
         moved = ap (λ (n : ℕ). out .at + n) (sym bits);
-        counted = omega (arith, changed-set l (out .at / 8) (v % 256), changed-set one (out .at / 8 + 1) (v / 2 ^ 8 % 256),
-            changed-more l one (set one (out .at / 8 + 1) (v / 2 ^ 8 % 256)) (length-set l (out .at / 8) (v % 256)));
+        counted = omega (
+          arith,
+          changed-set l (out .at / 8) (v % 256),
+          changed-set one (out .at / 8 + 1) (v / 2 ^ 8 % 256),
+          changed-more l one (set one (out .at / 8 + 1) (v / 2 ^ 8 % 256)) (length-set l (out .at / 8) (v % 256)),
+        );
         few = omega (arith, bits);
       }
 

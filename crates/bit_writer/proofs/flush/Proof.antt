@@ -2,16 +2,12 @@
 use Rattle.bits.proofs.NumberLaws.{length-numberBits}
 use Rattle.bits.proofs.WriteLaws.{written-within}
 use native.Mathlib.Omega.{arith}
-use Prim.Native.Nat.{_+_, _-_, _%_}
+use Prim.Native.Nat.{_-_, _%_}
 use mathlib.Core.Path.{_≡_}
 use borrow.Author.Tests.{leb-true}
 use borrow.Author.Needs.{needs}
 use Rattle.bit_writer.proofs.flush.Statement.{statement}
 use Rattle.bit_writer.proofs.flush.Tie as tie
-use Rattle.bit_writer.proofs.flush.Reads as reads
-use Rattle.bit_writer.proofs.flush.Lts as lts
-use Rattle.bit_writer.proofs.put_slowly.Reads as put-slowly-reads
-use Rattle.bit_writer.proofs.put_two.Reads as put-two-reads
 
 add-if2 : tie.Need-add-if2
 add-if2 c = search needs

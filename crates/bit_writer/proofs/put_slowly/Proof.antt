@@ -7,9 +7,6 @@ use mathlib.Core.Path.{_≡_}
 use borrow.Author.Needs.{needs}
 use Rattle.bit_writer.proofs.put_slowly.Statement.{statement}
 use Rattle.bit_writer.proofs.put_slowly.Tie as tie
-use Rattle.bit_writer.proofs.put_slowly.Reads as reads
-use Rattle.bit_writer.proofs.put_slowly.Lts as lts
-use Rattle.bits.proofs.put_bits.Reads as put-bits-reads
 
 sub-first : tie.Need-sub-first
 sub-first c = search needs

@@ -5,8 +5,6 @@ use lib.ListN.{length-set}
 use borrow.Author.Needs.{needs}
 use Rattle.bit_writer.proofs.put_two.Statement.{statement}
 use Rattle.bit_writer.proofs.put_two.Tie as tie
-use Rattle.bit_writer.proofs.put_two.Reads as reads
-use Rattle.bit_writer.proofs.put_two.Lts as lts
 
 cast-buf : tie.Need-cast-buf
 cast-buf c = search needs
