@@ -16,7 +16,7 @@ same-length c = search needs
 returns : tie.Need-returns
 returns c =
     let s = c .before .before .before .before .before .before in
-    rw (← digit-bits (s .args .b), ← (c .before .before .before .digit-of .ensures)) (c .before .before .put-bits .ensures)
+    rw (← digit-bits (s .args .b), ← (c .before .before .before .digit-of .ensures)) (c .before .before .put-bits .ensures .0)
 
 pub put-spec : {M : Type 1} → statement M
 put-spec = tie.close (tie.spec digit-of-requires put-bits-requires same-length returns)

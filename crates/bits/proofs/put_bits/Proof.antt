@@ -29,15 +29,19 @@ returns c =
     let put = c .before .before in
     let few = put .before .least in
     let a = put .before .before .before .before .before .args in
-    let all : min (a .count) (few .result) ≡ few .result = omega (arith, few .ensures) in
-    written-cut {next = put .put-part .result} (a .count) (numberBits (a .count) (a .v)) (length-numberBits (a .count) (a .v)) (few .ensures)
-    (rw (numberBits-take (few .result) (a .count) (a .v), all) (put .put-part .ensures .0))
+    let all : min (a .count) (few .result) ≡ few .result = omega (arith, few .ensures) in (
+      written-cut {next = put .put-part .result} (a .count) (numberBits (a .count) (a .v)) (length-numberBits (a .count) (a .v)) (few .ensures)
+          (rw (numberBits-take (few .result) (a .count) (a .v), all) (put .put-part .ensures .0)),
+      put .put-part .ensures .1,
+    )
 
 returns-2 : tie.Need-returns-2
 returns-2 c =
-    let a = c .before .before .args in
-    written-cut {next = a .out} {c = 0} (a .count) (numberBits (a .count) (a .v)) (length-numberBits (a .count) (a .v)) (omega arith)
-    (written-none (a .buf .now) (a .out) (a .out .at + 0))
+    let a = c .before .before .args in (
+      written-cut {next = a .out} {c = 0} (a .count) (numberBits (a .count) (a .v)) (length-numberBits (a .count) (a .v)) (omega arith)
+          (written-none (a .buf .now) (a .out) (a .out .at + 0)),
+      omega arith,
+    )
 
 pub put-bits-spec : {M : Type 1} → statement M
 put-bits-spec =

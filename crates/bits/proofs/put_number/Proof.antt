@@ -49,7 +49,7 @@ loop-again c =
     let m = put .before .before .piece in
     let turn = put .before .before .before .before in
     let l = turn .loop in
-    let w = put .put-bits .ensures in
+    let w = put .put-bits .ensures .0 in
     let bits = length-numberBits (m .result) (l .rest) in (
       put .put-bits .kept .0 ∙ l .inv .0,
       omega (arith, w .moved, bits, m .ensures, l .inv .1),
