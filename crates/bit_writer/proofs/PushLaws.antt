@@ -25,8 +25,8 @@ above-bits k c b v h = rw (add-comm b (v * 2 ^ k), numberBits-add k c (v * 2 ^ k
 pub above-lt : (k c b v : ℕ) → b < 2 ^ k → v < 2 ^ c → b + v * 2 ^ k < 2 ^ (k + c)
 above-lt k c b v h j = rw (add-comm b (v * 2 ^ k), pow-add 2 k c, mul-comm (2 ^ k) (2 ^ c)) (digits-lt j h)
 
--- a number of at most 32 bits loses none where it is moved up
-pub moved-exact : (k c v : ℕ) → v < 2 ^ c → c ≤ 32 → k < 16 → v * 2 ^ k % 2 ^ 64 ≡ v * 2 ^ k
+-- a number of at most 48 bits loses none where it is moved up
+pub moved-exact : (k c v : ℕ) → v < 2 ^ c → c ≤ 48 → k < 16 → v * 2 ^ k % 2 ^ 64 ≡ v * 2 ^ k
 moved-exact k c v h i j = shl-exact c k 64 h (omega arith)
 
 -- ---- the loop of `push`

@@ -66,7 +66,7 @@ pub fn start(out: Cursor) -> Pending
 
 // Writes the `count` bits of v after those held back.
 pub fn push(buf: &mut [u8], w: Pending, limit: usize, v: u64, count: u32) -> Pending
-    requires { ⌜ Ready w × (v < 2 ^ count) × (count ≤ 32) × (limit ≤ 8 * length (now buf)) × (w .out .at + 64 < 2 ^ 32) ⌝ }
+    requires { ⌜ Ready w × (v < 2 ^ count) × (count ≤ 48) × (limit ≤ 8 * length (now buf)) × (w .out .at + 64 < 2 ^ 32) ⌝ }
     ensures { λ r. ⌜ Pushed (now (buf .entry)) (now (buf .exit)) w limit (numberBits count v) r ⌝ }
 {
     let mut bits = w.bits + (v << w.count);

@@ -11,7 +11,7 @@ use Rattle.bit_writer.proofs.push.Tie as tie
 
 abbrev Inv-loop : tie.InvT-loop
 Inv-loop buf₀ limit v count bits₀ left₀ out₀ buf bits left out =
-    (length buf ≡ length buf₀) × (left ≤ 47) × Partly buf₀ buf limit out₀ bits₀ left₀ out bits left
+    (length buf ≡ length buf₀) × (left ≤ 63) × Partly buf₀ buf limit out₀ bits₀ left₀ out bits left
 
 abbrev μ-loop : tie.MeasureT-loop
 μ-loop buf₀ limit v count bits₀ left₀ out₀ buf bits left out = left
