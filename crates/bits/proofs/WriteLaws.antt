@@ -130,7 +130,7 @@ slice-write d at limit end code h k l =
     ∙ ap (λ (x : List Bool). code ++ x) (sym (ap (λ (i : ℕ). drop n (take i d)) e′ ∙ ap (drop n) (take-add n (end - n) d) ∙ drop-at (take n d) left n first))
 
 -- a writer leaves the buffer as long as it was
-same-bytes : (before after : List ℕ) (at limit : ℕ) (code : List Bool) → bitsOf after ≡ write (bitsOf before) at limit code → length after ≡ length before
+pub same-bytes : (before after : List ℕ) (at limit : ℕ) (code : List Bool) → bitsOf after ≡ write (bitsOf before) at limit code → length after ≡ length before
 same-bytes before after at limit code e =
     omega (arith, length-bitsOf before, length-bitsOf after, ap length e ∙ length-write (bitsOf before) at limit code)
 

@@ -2,7 +2,7 @@
 use mathlib.Core.Path.{_≡_}
 use mathlib.Core.Bool.{Bool, true, not, _&&_}
 use mathlib.Core.List.{List, [], _∷_}
-use Prim.Native.Nat.{ℕ, _+_, _*_, _/_, _%_, _^_, _≤_}
+use Prim.Native.Nat.{ℕ, suc, _+_, _-_, _*_, _/_, _%_, _^_, _≤_, min}
 use lib.ListN.{length}
 use Rattle.bits.specs.declared.Cursor.{Cursor}
 use Rattle.bits.specs.Stream.{bitsOf, write}
@@ -24,3 +24,12 @@ withBits b k c v = b / 2 ^ (k + c) * 2 ^ (k + c) + v % 2 ^ c * 2 ^ k + b % 2 ^ k
 abbrev pub noOnes : List Bool → Bool
 noOnes [] = true
 noOnes (b ∷ bs) = not b && noOnes bs
+
+-- what a writer did that may stop once it has written more bits than a budget: below the limit all of the code stands, and the cursor's place tells the
+-- length of the code, up to the first number above the budget
+pub record Reached (before after : List ℕ) (out : Cursor) (limit budget : ℕ) (code : List Bool) (next : Cursor) : Type 0 where
+  pub bits : bitsOf after ≡ write (bitsOf before) (out .at) limit code
+  pub onward : out .at ≤ next .at
+  pub reached : min (suc budget) (next .at - out .at) ≡ min (suc budget) (length code)
+  pub counted : out .writes + changed before after ≤ next .writes
+  pub few : next .writes + out .at ≤ out .writes + next .at

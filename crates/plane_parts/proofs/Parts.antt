@@ -8,8 +8,8 @@ use native.Mathlib.Numerals.{add-one}
 use native.Mathlib.Omega.{arith}
 use lib.ListN.{length, length-map}
 use lib.Pow.{pow-pos}
-use Rattle.bits.specs.Stream.{bit, digit, numberOf}
-use Rattle.bits.proofs.NumberLaws.{digit-lt}
+use Rattle.bits.specs.Stream.{bit, digit, numberBits, numberOf}
+use Rattle.bits.proofs.NumberLaws.{digit-lt, bits-back}
 use Rattle.planes.specs.Coder.{plane, any, answer, test, scan}
 use Rattle.plane_parts.specs.Calls.{Ends, Part, leftAfter, PartCode}
 
@@ -171,3 +171,11 @@ pow-next k = rw add-one (pow-suc 2 k ∙ omega arith)
 -- a code as one of one more bit
 pub one-longer : (k code : ℕ) → code < 2 ^ k → code < 2 ^ (k + 1)
 one-longer k code h = omega (arith, pow-next k)
+
+-- ---- a part's code as a number
+
+pub code-number : {whole left : List Bool} {count code : ℕ} → PartCode 0 0 whole left count code → numberBits count code ++ left ≡ whole
+code-number {left = left} p =
+    let number : _ ≡ numberOf (p .bits) = p .number ∙ omega arith in
+    let count : _ ≡ length (p .bits) = p .moved ∙ omega arith in
+    rw (number, count, bits-back (p .bits)) (sym (p .split))

@@ -1,17 +1,17 @@
 // A part of a plane, at most 16 places, as a number: its bits gathered, and what its tests and scans write. No buffer is lent to test and scan, so that
 // their cycle becomes a loop.
 ghost use mathlib.Core.Path.{_≡_};
-ghost use mathlib.Core.Bool.{Bool, true, false};
+ghost use mathlib.Core.Bool.{Bool, true, false, cond};
 ghost use mathlib.Core.List.{List, _++_};
 ghost use Prim.Native.Nat.{_+_, _*_, _^_, _≤_, _<_};
 ghost use lib.ListN.{length, getD};
 ghost use lib.Seq.{slice};
-ghost use Rattle.bits.specs.Stream.{bit, digit, numberOf};
+ghost use Rattle.bits.specs.Stream.{bit, numberBits, numberOf};
 ghost use Rattle.planes.specs.Coder.{plane, test, scan};
 ghost use Rattle.plane_parts.specs.Calls.{Part, PartCode, leftAfter};
 
 // Bit k of word i.
-fn bit_at(words: &[u64], k: u32, i: usize) -> bool
+pub fn bit_at(words: &[u64], k: u32, i: usize) -> bool
     requires { ⌜ (k < 64) × (i < length (now words)) ⌝ }
     ensures { λ r. ⌜ r ≡ bit k (getD (now (words .entry)) i 0) ⌝ }
 {
@@ -30,6 +30,12 @@ pub fn gather(words: &[u64], k: u32, from: usize, count: usize, above: u32) -> u
         v = bits::with_digit(v, bit_at(words, k, from + i));
     }
     v
+}
+
+// The code of a part: so many bits of a number.
+pub struct Piece {
+    pub bits: u64,
+    pub count: u32,
 }
 
 // A one above the first `count` bits of a code.
@@ -74,4 +80,20 @@ pub fn scan(x: u32, m: u32, spare: u32, count: u32, code: &mut u64) -> u32
     } else {
         scan(x / 2, m - 1, spare, count + 1, code)
     }
+}
+
+// What a part of a plane with a one in it or after it writes, from a test on or within a scan.
+pub fn code_of(x: u32, m: u32, spare: u32, testing: bool) -> Piece
+    requires { ⌜ (0 < x) × (spare ≤ m) × (spare ≤ 1) × (m ≤ 16) ⌝ }
+    ensures { λ r. ⌜ ((bs rest : List Bool) → Part x m spare bs rest
+        → numberBits (r .count) (r .bits) ++ leftAfter testing bs rest ≡ cond testing (test (bs ++ rest)) (scan (bs ++ rest)))
+        × (r .bits < 2 ^ r .count) × (r .count ≤ 33) ⌝ }
+{
+    let mut bits: u64 = 0;
+    let count = if testing {
+        test(x, m, spare, 0, &mut bits)
+    } else {
+        scan(x, m, spare, 0, &mut bits)
+    };
+    Piece { bits, count }
 }
