@@ -5,6 +5,7 @@ use mathlib.Core.List.{List, [], _∷_, _++_, append-assoc}
 use Prim.Native.Nat.{ℕ, zero, suc, _+_, _-_, _*_, _/_, _%_, _^_, _≤_, _<_, min}
 use native.Mathlib.Nat.{zero-add, suc-add}
 use native.Mathlib.Omega.{arith}
+use lib.Pow.{shl-exact}
 use lib.ListN.{length, getD, set, take, drop, length-append, take-append-drop, List·getD-append}
 use lib.Seq.{sets, set-append-left, length-sets, getD-append-add, take-append-seam, drop-append-seam, take-append-le, drop-append-add, drop-at}
 use lib.Seq.{slice, slice-cons, slice-empty, length-slice, take-nil, take-take, drop-drop}
@@ -170,3 +171,11 @@ pub number-parts : (d : List Bool) (at k n : ℕ) → k ≤ n → at + n ≤ len
 number-parts d at k n h l =
     let e : length (slice at (at + k) d) ≡ k = length-slice at (at + k) d (omega arith) ∙ omega arith in
     sym (ap numberOf (slice-split d at k (at + n) (omega arith)) ∙ numberOf-append (slice at (at + k) d) (slice (at + k) (at + n) d) ∙ rw e)
+
+-- a number, read from its lowest bits up: m bits more, moved up past the i that were read
+pub number-up : (d : List Bool) (at i m n x : ℕ) → at + i + m ≤ length d → i + m ≤ 32 → n ≡ numberOf (slice at (at + i) d)
+    → x ≡ numberOf (slice (at + i) (at + i + m) d) → n + x * 2 ^ i % 2 ^ 32 ≡ numberOf (slice at (at + (i + m)) d)
+number-up d at i m n x l h e f =
+    let few : x < 2 ^ m = rw f (number-lt d (at + i) m l) in
+    let place : at + i + m ≡ at + (i + m) = omega arith in
+    rw (shl-exact m i 32 few (omega arith), e, f, place) (number-parts d at i (i + m) (omega arith) (omega arith))
