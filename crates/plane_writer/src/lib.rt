@@ -1,49 +1,33 @@
-// The coder: writes the planes of words to a stream of bits, below a limit.
+// The coder: writes the planes of words to a stream of bits, below a limit, and stops once more than a budget is written.
 ghost use mathlib.Core.Path.{_≡_};
-ghost use Prim.Native.Nat.{ℕ, _+_, _-_, _*_, _^_, _≤_, _<_, min, max};
-ghost use lib.Dec.{leb};
+ghost use mathlib.Core.Bool.{true, cond};
+ghost use Prim.Native.Nat.{ℕ, _+_, _-_, _*_, _^_, _≤_, _<_};
 ghost use lib.ListN.{length, getD, take, drop};
-ghost use lib.Seq.{slice};
-ghost use Rattle.bits.specs.Stream.{bit, digit, numberOf};
+ghost use Rattle.bits.specs.Stream.{bit};
 ghost use Rattle.bits.specs.Writes.{mostWrites};
-ghost use Rattle.bits.specs.Calls.{Written};
+ghost use Rattle.bits.specs.Calls.{Reached};
+ghost use Rattle.bit_writer.specs.Calls.{Ready, Pushed};
 ghost use Rattle.planes.specs.Coder.{plane, any, onesEnd, scan, test, planeCode, planeNext, planesCode, planesWithin};
-ghost use Rattle.planes.specs.Calls.{cursor, Advanced};
+ghost use Rattle.plane_writer.specs.Calls.{OnesFrom, Advanced, Begun};
+use bit_writer::Pending;
 use bits::Cursor;
 
 // Where the coder stands: in the stream, and in the plane (document 01's n).
 struct Coder {
-    pub out: Cursor,
+    pub out: Pending,
     pub n: usize,
 }
 
-// What the coder did: where it stands, and how many planes were written whole within the budget.
-pub struct Coded {
-    pub out: Cursor,
+// Where the coder stands after planes, and how many were written whole within the budget.
+struct Planes {
+    pub out: Pending,
     pub whole: u32,
 }
 
-// Bit k of word i.
-fn bit_at(words: &[u64], k: u32, i: usize) -> bool
-    requires { ⌜ (k < 64) × (i < length (now words)) ⌝ }
-    ensures { λ r. ⌜ r ≡ bit k (getD (now (words .entry)) i 0) ⌝ }
-{
-    (words[i] >> k) % 2 == 1
-}
-
-// The place after the last one of plane k.
-fn ones_end(words: &[u64], k: u32) -> usize
-    requires { ⌜ k < 64 ⌝ }
-    ensures { λ r. ⌜ r ≡ onesEnd (plane k (now (words .entry))) ⌝ }
-{
-    let mut i = words.len();
-    while 0 < i {
-        if bit_at(words, k, i - 1) {
-            return i;
-        }
-        i -= 1;
-    }
-    0
+// What the coder did: the same, with nothing held back.
+pub struct Coded {
+    pub out: Cursor,
+    pub whole: u32,
 }
 
 // A word whose bit k says whether plane k has a one.
@@ -59,188 +43,199 @@ pub fn planes_with_ones(words: &[u64]) -> u64
     all
 }
 
-// The test at place n: is any bit from there on a one? A 1 is followed by a scan. The place after it; the count of byte writes is lent, which keeps the
-// cycle's frames small.
-fn test(
-    words: &[u64],
-    k: u32,
-    end: usize,
-    n: usize,
-    buf: &mut [u8],
-    at: usize,
-    writes: &mut usize,
-    limit: usize,
-) -> usize
-    requires { ⌜ (k < 64) × (n ≤ length (now words)) × (end ≡ onesEnd (plane k (now words))) × (limit ≤ 8 * length (now buf))
-        × (at + 2 * (length (now words) - n) < 2 ^ 32) × (now writes ≤ at) ⌝ }
-    ensures { λ r. ⌜ Written (now (buf .entry)) (now (buf .exit)) (cursor at (now (writes .entry))) limit
-        (test (drop n (plane k (now (words .entry))))) (cursor r (now (writes .exit))) ⌝ }
+// For each place, a word whose bit k says whether plane k has a one from there on.
+pub fn ones_from(words: &[u64], ors: &mut [u64])
+    requires { ⌜ length (now ors) ≡ length (now words) ⌝ }
+    ensures { λ _. ⌜ OnesFrom (now (ors .exit)) (now (words .entry)) ⌝ }
 {
-    let out = Cursor {
-        at,
-        writes: *writes,
-    };
-    if n < words.len() {
-        if n < end {
-            let next = bits::put(buf, out, limit, true);
-            *writes = next.writes;
-            scan(words, k, end, n, buf, next.at, writes, limit)
-        } else {
-            let next = bits::put(buf, out, limit, false);
-            *writes = next.writes;
-            next.at
-        }
-    } else {
-        at
-    }
-}
-
-// The scan from place n: bits are written until a one has been, then comes a test; the bit at the last place is never written.
-fn scan(
-    words: &[u64],
-    k: u32,
-    end: usize,
-    n: usize,
-    buf: &mut [u8],
-    at: usize,
-    writes: &mut usize,
-    limit: usize,
-) -> usize
-    requires { ⌜ (k < 64) × (n < length (now words)) × (end ≡ onesEnd (plane k (now words))) × (limit ≤ 8 * length (now buf))
-        × (at + 2 * (length (now words) - n) < 2 ^ 32 + 1) × (now writes ≤ at) ⌝ }
-    ensures { λ r. ⌜ Written (now (buf .entry)) (now (buf .exit)) (cursor at (now (writes .entry))) limit
-        (scan (drop n (plane k (now (words .entry))))) (cursor r (now (writes .exit))) ⌝ }
-{
-    let past = n + 1;
-    if past < words.len() {
-        let b = bit_at(words, k, n);
-        let out = Cursor {
-            at,
-            writes: *writes,
-        };
-        let next = bits::put(buf, out, limit, b);
-        *writes = next.writes;
-        if b {
-            test(words, k, end, past, buf, next.at, writes, limit)
-        } else {
-            scan(words, k, end, past, buf, next.at, writes, limit)
-        }
-    } else {
-        at
-    }
-}
-
-// How many of `count` bits from `at` on are below the limit.
-fn below(at: usize, limit: usize, count: usize) -> usize
-    ensures { λ r. ⌜ r ≡ min count (limit - at) ⌝ }
-{
-    if at < limit {
-        bits::least(count, limit - at)
-    } else {
-        0
-    }
-}
-
-// The number that has `count` bits of plane k from place `from` on, lowest first.
-fn gather(words: &[u64], k: u32, from: usize, count: usize) -> u32
-    requires { ⌜ (k < 64) × (from + count ≤ length (now words)) × (count ≤ 8) ⌝ }
-    ensures { λ r. ⌜ r ≡ numberOf (slice from (from + count) (plane k (now (words .entry)))) ⌝ }
-{
-    let mut i = count;
-    let mut v: u32 = 0;
+    let mut all: u64 = 0;
+    let mut i = words.len();
     while 0 < i {
         i -= 1;
-        v = bits::with_digit(v, bit_at(words, k, from + i));
+        all = all | words[i];
+        ors[i] = all;
     }
-    v
 }
 
-// The n first bits of plane k, as they are, a byte's share at a time; those at the limit and after it are not looked at.
-fn verbatim(words: &[u64], k: u32, n: usize, buf: &mut [u8], out: Cursor, limit: usize) -> Cursor
-    requires { ⌜ (k < 64) × (n ≤ length (now words)) × (limit ≤ 8 * length (now buf)) × (out .at + n < 2 ^ 32) × (out .writes ≤ out .at) ⌝ }
-    ensures { λ r. ⌜ Written (now (buf .entry)) (now (buf .exit)) out limit (take n (plane k (now (words .entry)))) r
-        × (r .writes ≤ out .writes + mostWrites n) ⌝ }
+// Whether plane k has a one from place i on.
+fn any_from(ors: &[u64], k: u32, i: usize) -> bool
+    requires { ⌜ k < 64 ⌝ }
+    ensures { λ r. ⌜ r ≡ bit k (getD (now (ors .entry)) i 0) ⌝ }
 {
-    if n < 1 {
-        return out;
+    if i < ors.len() {
+        (ors[i] >> k) % 2 == 1
+    } else {
+        false
     }
-    let at = out.at;
-    let stored = below(at, limit, n);
-    let mut next = out;
+}
+
+// The n first bits of plane k, as they are, 16 at a time.
+fn verbatim(words: &[u64], k: u32, n: usize, buf: &mut [u8], w: Pending, limit: usize) -> Pending
+    requires { ⌜ (k < 64) × (n ≤ length (now words)) × Ready w × (limit ≤ 8 * length (now buf)) × (w .out .at + n < 2 ^ 32 - 64) ⌝ }
+    ensures { λ r. ⌜ Pushed (now (buf .entry)) (now (buf .exit)) w limit (take n (plane k (now (words .entry)))) r
+        × (r .out .writes ≤ w .out .writes + mostWrites n) ⌝ }
+{
+    let mut next = w;
     let mut i = 0;
-    while i < stored {
-        let m = bits::piece(next.at, stored - i);
-        let v = gather(words, k, i, m);
-        next = bits::put_part(buf, next, v, m);
+    while i < n {
+        let m = bits::least(16, n - i);
+        let v = plane_parts::gather(words, k, i, m, 0);
+        next = bit_writer::push(buf, next, limit, v as u64, m as u32);
         i += m;
     }
-    let writes = next.writes;
-    Cursor { at: at + n, writes }
+    next
 }
 
-// The later of two places.
-fn later(a: usize, b: usize) -> usize
-    ensures { λ r. ⌜ r ≡ max a b ⌝ }
+// The last part of plane k with ones in it, from place i on: the place after its last one.
+fn last_part(
+    words: &[u64],
+    k: u32,
+    i: usize,
+    testing: bool,
+    buf: &mut [u8],
+    w: Pending,
+    limit: usize,
+) -> Coder
+    requires { ⌜ (k < 64) × (any (drop i (plane k (now words))) ≡ true) × (onesEnd (plane k (now words)) ≤ i + 16) × (i < length (now words))
+        × Ready w × (limit ≤ 8 * length (now buf)) × (w .out .at < 2 ^ 32 - 64) ⌝ }
+    ensures { λ r. ⌜ Advanced (now (buf .entry)) (now (buf .exit)) w limit
+        (cond testing (test (drop i (plane k (now (words .entry))))) (scan (drop i (plane k (now (words .entry))))))
+        (onesEnd (plane k (now (words .entry)))) (r .out) (r .n) ⌝ }
 {
-    if a < b { b } else { a }
+    let m = bits::least(16, words.len() - i);
+    let spare = (i + m == words.len()) as u32;
+    let x = plane_parts::gather(words, k, i, m, 0);
+    let c = plane_parts::code_of(x, m as u32, spare, testing);
+    Coder {
+        out: bit_writer::push(buf, w, limit, c.bits, c.count),
+        n: i + (32 - u32::leading_zeros(x)) as usize,
+    }
+}
+
+// The tests and scans of plane k from place n on, where there is a one at n or after it: 16 places at a time, as long as ones follow after these.
+fn tests(
+    words: &[u64],
+    ors: &[u64],
+    k: u32,
+    n: usize,
+    buf: &mut [u8],
+    w: Pending,
+    limit: usize,
+) -> Coder
+    requires { ⌜ (k < 64) × OnesFrom (now ors) (now words) × (any (drop n (plane k (now words))) ≡ true) × (length (now words) ≤ 256)
+        × Ready w × (limit ≤ 8 * length (now buf)) × (w .out .at < 2 ^ 32 - 1024) ⌝ }
+    ensures { λ r. ⌜ Advanced (now (buf .entry)) (now (buf .exit)) w limit
+        (test (drop n (plane k (now (words .entry))))) (onesEnd (plane k (now (words .entry)))) (r .out) (r .n) ⌝ }
+{
+    let mut next = w;
+    let mut i = n;
+    let mut testing = true;
+    while any_from(ors, k, i + 16) {
+        let x = plane_parts::gather(words, k, i, 16, 1);
+        let c = plane_parts::code_of(x, 16, 0, testing);
+        next = bit_writer::push(buf, next, limit, c.bits, c.count);
+        testing = plane_parts::bit_at(words, k, i + 15);
+        i += 16;
+    }
+    last_part(words, k, i, testing, buf, next, limit)
 }
 
 // Plane k: its n first bits as they are, then a test, if places are left.
-fn put_plane(words: &[u64], k: u32, n: usize, buf: &mut [u8], out: Cursor, limit: usize) -> Coder
-    requires { ⌜ (k < 64) × (n ≤ length (now words)) × (limit ≤ 8 * length (now buf)) × (out .at + 2 * length (now words) < 2 ^ 32)
-        × (out .writes ≤ out .at) ⌝ }
-    ensures { λ r. ⌜ Advanced (now (buf .entry)) (now (buf .exit)) out limit
+fn put_plane(
+    words: &[u64],
+    ors: &[u64],
+    k: u32,
+    n: usize,
+    buf: &mut [u8],
+    w: Pending,
+    limit: usize,
+) -> Coder
+    requires { ⌜ (k < 64) × OnesFrom (now ors) (now words) × (n ≤ length (now words)) × (length (now words) ≤ 256) × Ready w
+        × (limit ≤ 8 * length (now buf)) × (w .out .at < 2 ^ 32 - 2048) ⌝ }
+    ensures { λ r. ⌜ Advanced (now (buf .entry)) (now (buf .exit)) w limit
         (planeCode n (plane k (now (words .entry)))) (planeNext n (plane k (now (words .entry)))) (r .out) (r .n) ⌝ }
 {
-    let next = verbatim(words, k, n, buf, out, limit);
-    if n < words.len() {
-        let end = ones_end(words, k);
-        let mut writes = next.writes;
-        let at = test(words, k, end, n, buf, next.at, &mut writes, limit);
-        let tested = Cursor { at, writes };
-        Coder {
-            out: tested,
-            n: later(n, end),
-        }
+    let next = verbatim(words, k, n, buf, w, limit);
+    if n == words.len() {
+        return Coder { out: next, n };
+    }
+    if any_from(ors, k, n) {
+        tests(words, ors, k, n, buf, next, limit)
     } else {
-        Coder { out: next, n }
+        Coder {
+            out: bit_writer::push(buf, next, limit, 0, 1),
+            n,
+        }
     }
 }
 
-// 1 for a code of so many bits within the budget, 0 for a longer one.
-fn within(used: usize, budget: usize) -> u32
-    ensures { λ r. ⌜ (r ≡ digit (leb used budget)) × (r ≤ 1) ⌝ }
+// How many bits were written since the place `from`.
+fn used(w: Pending, from: usize) -> usize
+    requires { ⌜ (from ≤ w .out .at) × (w .out .at < 2 ^ 32) × (w .count < 16) ⌝ }
+    ensures { λ r. ⌜ r ≡ w .out .at + w .count - from ⌝ }
 {
-    (used <= budget) as u32
+    w.out.at + w.count as usize - from
 }
 
-// The planes of words of `size` bits from the top one downward, p of them. The budget, in bits of their code, is for the count of whole planes; what is
-// written ends at the limit.
+// The planes of words of `size` bits from the top one downward, p of them, or fewer if those take more than the budget.
+fn planes(
+    size: u32,
+    words: &[u64],
+    ors: &[u64],
+    p: u32,
+    buf: &mut [u8],
+    out: Cursor,
+    limit: usize,
+    budget: usize,
+) -> Planes
+    requires { ⌜ (size ≤ 64) × (p ≤ size) × OnesFrom (now ors) (now words) × (length (now words) ≤ 256) × (limit ≤ 8 * length (now buf))
+        × (out .at < 2 ^ 31) × (out .writes ≤ out .at) ⌝ }
+    ensures { λ r. ⌜ Begun (now (buf .entry)) (now (buf .exit)) (record { out = out; bits = 0; count = 0 }) limit budget
+        (planesCode size p (now (words .entry))) (r .out)
+        × (r .whole ≡ planesWithin size p budget (now (words .entry))) × (r .out .out .at < 2 ^ 32 - 64) ⌝ }
+{
+    let mut next = bit_writer::start(out);
+    let mut n = 0;
+    let mut k = size;
+    while size - p < k {
+        k -= 1;
+        let c = put_plane(words, ors, k, n, buf, next, limit);
+        if budget < used(c.out, out.at) {
+            return Planes {
+                out: c.out,
+                whole: size - 1 - k,
+            };
+        }
+        next = c.out;
+        n = c.n;
+    }
+    Planes {
+        out: next,
+        whole: p,
+    }
+}
+
+// The planes of words of `size` bits from the top one downward, p of them. The budget, in bits of their code, is for the count of whole planes, and what
+// stands past it does not matter; what is written ends at the limit.
 pub fn put_planes(
     size: u32,
     words: &[u64],
+    ors: &[u64],
     p: u32,
     buf: &mut [u8],
     out: Cursor,
     limit: usize,
     budget: usize,
 ) -> Coded
-    requires { ⌜ (size ≤ 64) × (p ≤ size) × (length (now words) ≤ 256) × (limit ≤ 8 * length (now buf)) × (out .at < 2 ^ 31)
-        × (out .writes ≤ out .at) ⌝ }
-    ensures { λ r. ⌜ Written (now (buf .entry)) (now (buf .exit)) out limit (planesCode size p (now (words .entry))) (r .out)
+    requires { ⌜ (size ≤ 64) × (p ≤ size) × OnesFrom (now ors) (now words) × (length (now words) ≤ 256) × (limit ≤ 8 * length (now buf))
+        × (out .at < 2 ^ 31) × (out .writes ≤ out .at) × (limit ≤ out .at + budget) ⌝ }
+    ensures { λ r. ⌜ Reached (now (buf .entry)) (now (buf .exit)) out limit budget (planesCode size p (now (words .entry))) (r .out)
         × (r .whole ≡ planesWithin size p budget (now (words .entry))) ⌝ }
 {
-    let lowest = size - p;
-    let mut next = out;
-    let mut n = 0;
-    let mut whole: u32 = 0;
-    let mut k = size;
-    while lowest < k {
-        k -= 1;
-        let c = put_plane(words, k, n, buf, next, limit);
-        next = c.out;
-        n = c.n;
-        whole += within(next.at - out.at, budget);
+    let s = planes(size, words, ors, p, buf, out, limit, budget);
+    let whole = s.whole;
+    Coded {
+        out: bit_writer::finish(buf, s.out, limit),
+        whole,
     }
-    Coded { out: next, whole }
 }

@@ -14,10 +14,14 @@ scan-requires : tie.Need-scan-requires
 scan-requires c κs = search needs
 
 returns : tie.Need-returns
-returns c = ?
+returns c =
+    let t = c .test .ensures in
+    rw (c .before .before .if1 .taken) ((λ bs rest p. code-number (t .0 bs rest p)), t .2, omega (arith, t .1))
 
 returns-2 : tie.Need-returns-2
-returns-2 c = ?
+returns-2 c =
+    let t = c .scan .ensures in
+    rw (c .before .before .if1 .left) ((λ bs rest p. code-number (t .0 bs rest p)), t .2, omega (arith, t .1))
 
 pub code-of-spec : {M : Type 1} → statement M
 code-of-spec = tie.close (tie.spec test-requires scan-requires returns returns-2)
