@@ -2,8 +2,9 @@
 ghost use mathlib.Core.Path.{_≡_};
 ghost use mathlib.Core.Bool.{true, cond};
 ghost use Prim.Native.Nat.{ℕ, _+_, _-_, _*_, _^_, _≤_, _<_};
+ghost use lib.Dec.{eqb};
 ghost use lib.ListN.{length, getD, take, drop};
-ghost use Rattle.bits.specs.Stream.{bit};
+ghost use Rattle.bits.specs.Stream.{bit, digit};
 ghost use Rattle.bits.specs.Writes.{mostWrites};
 ghost use Rattle.bits.specs.Calls.{Reached};
 ghost use Rattle.bit_writer.specs.Calls.{Ready, Pushed};
@@ -18,8 +19,8 @@ struct Coder {
     pub n: usize,
 }
 
-// Where the coder stands after planes, and how many were written whole within the budget.
-struct Planes {
+// Where the coder stopped, and how many planes were written whole within the budget.
+struct Stopped {
     pub out: Pending,
     pub whole: u32,
 }
@@ -71,7 +72,7 @@ fn any_from(ors: &[u64], k: u32, i: usize) -> bool
 
 // The n first bits of plane k, as they are, 16 at a time.
 fn verbatim(words: &[u64], k: u32, n: usize, buf: &mut [u8], w: Pending, limit: usize) -> Pending
-    requires { ⌜ (k < 64) × (n ≤ length (now words)) × Ready w × (limit ≤ 8 * length (now buf)) × (w .out .at + n < 2 ^ 32 - 64) ⌝ }
+    requires { ⌜ (k < 64) × (n ≤ length (now words)) × Ready w × (limit ≤ 8 * length (now buf)) × (w .out .at + n + 128 < 2 ^ 32) ⌝ }
     ensures { λ r. ⌜ Pushed (now (buf .entry)) (now (buf .exit)) w limit (take n (plane k (now (words .entry)))) r
         × (r .out .writes ≤ w .out .writes + mostWrites n) ⌝ }
 {
@@ -86,6 +87,13 @@ fn verbatim(words: &[u64], k: u32, n: usize, buf: &mut [u8], w: Pending, limit: 
     next
 }
 
+// 1 for a part that ends the plane, whose last place is never written.
+fn spare_place(end: usize, places: usize) -> u32
+    ensures { λ r. ⌜ (r ≡ digit (eqb end places)) × (r ≤ 1) ⌝ }
+{
+    (end == places) as u32
+}
+
 // The last part of plane k with ones in it, from place i on: the place after its last one.
 fn last_part(
     words: &[u64],
@@ -97,17 +105,18 @@ fn last_part(
     limit: usize,
 ) -> Coder
     requires { ⌜ (k < 64) × (any (drop i (plane k (now words))) ≡ true) × (onesEnd (plane k (now words)) ≤ i + 16) × (i < length (now words))
-        × Ready w × (limit ≤ 8 * length (now buf)) × (w .out .at < 2 ^ 32 - 64) ⌝ }
+        × Ready w × (limit ≤ 8 * length (now buf)) × (w .out .at + 128 < 2 ^ 32) ⌝ }
     ensures { λ r. ⌜ Advanced (now (buf .entry)) (now (buf .exit)) w limit
         (cond testing (test (drop i (plane k (now (words .entry))))) (scan (drop i (plane k (now (words .entry))))))
         (onesEnd (plane k (now (words .entry)))) (r .out) (r .n) ⌝ }
 {
     let m = bits::least(16, words.len() - i);
-    let spare = (i + m == words.len()) as u32;
+    let spare = spare_place(i + m, words.len());
     let x = plane_parts::gather(words, k, i, m, 0);
     let c = plane_parts::code_of(x, m as u32, spare, testing);
+    let next = bit_writer::push(buf, w, limit, c.bits, c.count);
     Coder {
-        out: bit_writer::push(buf, w, limit, c.bits, c.count),
+        out: next,
         n: i + (32 - u32::leading_zeros(x)) as usize,
     }
 }
@@ -123,7 +132,7 @@ fn tests(
     limit: usize,
 ) -> Coder
     requires { ⌜ (k < 64) × OnesFrom (now ors) (now words) × (any (drop n (plane k (now words))) ≡ true) × (length (now words) ≤ 256)
-        × Ready w × (limit ≤ 8 * length (now buf)) × (w .out .at < 2 ^ 32 - 1024) ⌝ }
+        × Ready w × (limit ≤ 8 * length (now buf)) × (w .out .at + 1024 < 2 ^ 32) ⌝ }
     ensures { λ r. ⌜ Advanced (now (buf .entry)) (now (buf .exit)) w limit
         (test (drop n (plane k (now (words .entry))))) (onesEnd (plane k (now (words .entry)))) (r .out) (r .n) ⌝ }
 {
@@ -151,7 +160,7 @@ fn put_plane(
     limit: usize,
 ) -> Coder
     requires { ⌜ (k < 64) × OnesFrom (now ors) (now words) × (n ≤ length (now words)) × (length (now words) ≤ 256) × Ready w
-        × (limit ≤ 8 * length (now buf)) × (w .out .at < 2 ^ 32 - 2048) ⌝ }
+        × (limit ≤ 8 * length (now buf)) × (w .out .at + 2048 < 2 ^ 32) ⌝ }
     ensures { λ r. ⌜ Advanced (now (buf .entry)) (now (buf .exit)) w limit
         (planeCode n (plane k (now (words .entry)))) (planeNext n (plane k (now (words .entry)))) (r .out) (r .n) ⌝ }
 {
@@ -162,10 +171,8 @@ fn put_plane(
     if any_from(ors, k, n) {
         tests(words, ors, k, n, buf, next, limit)
     } else {
-        Coder {
-            out: bit_writer::push(buf, next, limit, 0, 1),
-            n,
-        }
+        let last = bit_writer::push(buf, next, limit, 0, 1);
+        Coder { out: last, n }
     }
 }
 
@@ -187,29 +194,30 @@ fn planes(
     out: Cursor,
     limit: usize,
     budget: usize,
-) -> Planes
+) -> Stopped
     requires { ⌜ (size ≤ 64) × (p ≤ size) × OnesFrom (now ors) (now words) × (length (now words) ≤ 256) × (limit ≤ 8 * length (now buf))
         × (out .at < 2 ^ 31) × (out .writes ≤ out .at) ⌝ }
     ensures { λ r. ⌜ Begun (now (buf .entry)) (now (buf .exit)) (record { out = out; bits = 0; count = 0 }) limit budget
         (planesCode size p (now (words .entry))) (r .out)
-        × (r .whole ≡ planesWithin size p budget (now (words .entry))) × (r .out .out .at < 2 ^ 32 - 64) ⌝ }
+        × (r .whole ≡ planesWithin size p budget (now (words .entry))) × (r .out .out .at + 64 < 2 ^ 32) ⌝ }
 {
+    let lowest = size - p;
     let mut next = bit_writer::start(out);
     let mut n = 0;
     let mut k = size;
-    while size - p < k {
+    while lowest < k {
         k -= 1;
         let c = put_plane(words, ors, k, n, buf, next, limit);
-        if budget < used(c.out, out.at) {
-            return Planes {
-                out: c.out,
+        next = c.out;
+        if budget < used(next, out.at) {
+            return Stopped {
+                out: next,
                 whole: size - 1 - k,
             };
         }
-        next = c.out;
         n = c.n;
     }
-    Planes {
+    Stopped {
         out: next,
         whole: p,
     }
@@ -234,8 +242,7 @@ pub fn put_planes(
 {
     let s = planes(size, words, ors, p, buf, out, limit, budget);
     let whole = s.whole;
-    Coded {
-        out: bit_writer::finish(buf, s.out, limit),
-        whole,
-    }
+    let held = s.out;
+    let end = bit_writer::finish(buf, held, limit);
+    Coded { out: end, whole }
 }

@@ -1,91 +1,112 @@
--- The loop's invariant: the i first bits are written, of those below the limit.
-use mathlib.Core.Path.{_≡_, refl, _∙_}
-use Prim.Native.Nat.{_-_}
+-- The loop's invariant: the i first bits are written.
+use mathlib.Core.Path.{_≡_, refl, sym, ap, _∙_}
+use Prim.Native.Nat.{ℕ, _+_, _-_, _≤_, _<_}
 use native.Mathlib.Omega.{arith}
 use borrow.Author.Needs.{needs}
 use lib.ListN.{length, take}
-use lib.Seq.{take-take}
-use Rattle.bits.proofs.WriteLaws.{written-none, written-cut}
-use Rattle.bits.proofs.PieceLaws.{Partly, partly-none, partly-more, partly-all, piece-less}
+use Rattle.bit_writer.specs.Calls.{Pushed}
+use Rattle.bit_writer.proofs.PushLaws.{pushed-none, pushed-append, pushed-place, pushed-most}
+use lib.Seq.{take-add}
+use Rattle.bits.proofs.StreamLaws.{drop-take}
 use Rattle.planes.specs.Coder.{plane}
-use Rattle.plane_writer.proofs.Places.{plane-length, first-length}
+use Rattle.plane_writer.proofs.Places.{first-length, gathered}
 use Rattle.plane_writer.proofs.verbatim.Statement.{statement}
 use Rattle.plane_writer.proofs.verbatim.Tie as tie
+use Rattle.plane_writer.proofs.verbatim.Reads as reads
+use Rattle.plane_writer.proofs.verbatim.Lts as lts
+use Rattle.bit_writer.proofs.push.Reads as push-reads
+use Rattle.bits.proofs.least.Reads as least-reads
+use Rattle.plane_parts.proofs.gather.Reads as gather-reads
 
 abbrev Inv-loop : tie.InvT-loop
-Inv-loop words k n buf₀ limit at stored next₀ i₀ buf next i = (length buf ≡ length buf₀) × Partly buf₀ buf next₀ (plane k words) stored i next
+Inv-loop words k n buf₀ limit next₀ i₀ buf next i =
+    (length buf ≡ length buf₀) × (i ≤ n) × Pushed buf₀ buf next₀ limit (take i (plane k words)) next
 
 abbrev μ-loop : tie.MeasureT-loop
-μ-loop words k n buf₀ limit at stored next₀ i₀ buf next i = stored - i
+μ-loop words k n buf₀ limit next₀ i₀ buf next i = n - i
 
-returns : tie.Need-returns Inv-loop μ-loop
-returns c =
-    let a = c .before .before .before .args in
-    let e : a .n ≡ 0 = omega arith in
-    (rw e (written-none (a .buf .now) (a .out) (a .limit)), omega arith)
-
-below-requires : tie.Need-below-requires Inv-loop μ-loop
-below-requires c κs = search needs
-
+-- src/lib.rt:80:5
 loop-holds : tie.Need-loop-holds Inv-loop μ-loop
-loop-holds c = (refl, partly-none _ _ _ _)
+loop-holds c = (refl, omega arith, pushed-none (c .before .before .pre .2))
 
-sub-piece : tie.Need-sub-piece Inv-loop μ-loop
-sub-piece c = search needs
+-- src/lib.rt:81:33
+sub-least : tie.Need-sub-least Inv-loop μ-loop
+sub-least c = search needs
 
-piece-requires : tie.Need-piece-requires Inv-loop μ-loop
-piece-requires c κs = search needs
+-- src/lib.rt:81:13
+least-requires : tie.Need-least-requires Inv-loop μ-loop
+least-requires c κs = search needs
 
+-- src/lib.rt:82:13
 gather-requires : tie.Need-gather-requires Inv-loop μ-loop
 gather-requires c κs = search needs
 
-put-part-requires : tie.Need-put-part-requires Inv-loop μ-loop
-put-part-requires c κs =
+-- src/lib.rt:83:51
+cast-push : tie.Need-cast-push Inv-loop μ-loop
+cast-push c = search needs
+
+-- src/lib.rt:83:61
+cast-push-2 : tie.Need-cast-push-2 Inv-loop μ-loop
+cast-push-2 c = search needs
+
+-- src/lib.rt:83:9
+push-requires : tie.Need-push-requires Inv-loop μ-loop
+push-requires c κs =
     let turn = c .before .before .before in
     let l = turn .before .loop in
-    let p = l .inv .1 in
-    let fit = turn .before .before in
-    let s = fit .before .before .before .before in
-    omega (arith, p .moved, p .whole (turn .loop-test .taken), s .pre, fit .below .ensures, c .before .before .piece .ensures, l .inv .0)
+    let s = turn .before .before .before .before in
+    let a = s .args in
+    let m = c .before .before .least in
+    let v = c .before .gather in
+    let i : l .i + m .result ≤ length (a .words .now) = omega (arith, m .ensures, s .pre .1) in
+    let p = l .inv .2 in
+    let first = first-length (a .k) (a .words .now) (l .i) (omega arith) in (
+      p .ready,
+      gathered (a .k) (l .i) (m .result) (v .result) (a .words .now) i (v .ensures) .0,
+      omega (arith, m .ensures),
+      omega (arith, s .pre .3, l .inv .0),
+      omega (arith, pushed-place p, first, s .pre .2 .short, s .pre .4),
+    )
 
+-- src/lib.rt:84:9
 add-i : tie.Need-add-i Inv-loop μ-loop
 add-i c = search needs
 
+-- src/lib.rt:80:5
 loop-less : tie.Need-loop-less Inv-loop μ-loop
-loop-less c =
-    let m = c .before .before .before .before .before .piece in
-    let turn = c .before .before .before .before .before .before in
-    piece-less (turn .before .loop .next .at) (turn .loop-test .taken) (m .ensures) refl
+loop-less c = omega (arith, c .before .before .before .before .before .least .ensures)
 
+-- src/lib.rt:80:5
 loop-again : tie.Need-loop-again Inv-loop μ-loop
 loop-again c =
     let put = c .before .before in
-    let m = put .before .before .before .piece in
+    let v = put .before .before .gather in
+    let m = put .before .before .before .least in
     let turn = put .before .before .before .before in
     let l = turn .before .loop in
-    let fit = turn .before .before in
-    let a = fit .before .before .before .before .args in
-    let ws = a .words .now in (
-      put .put-part .kept .0 ∙ l .inv .0,
-      partly-more (plane (a .k) ws) (l .inv .1) (turn .loop-test .taken) (omega (arith, plane-length (a .k) ws, fit .below .ensures)) (m .ensures)
-          (put .before .before .gather .ensures) (put .put-part .ensures),
+    let s = turn .before .before .before .before in
+    let a = s .args in
+    let d = plane (a .k) (a .words .now) in
+    let i : l .i + m .result ≤ length (a .words .now) = omega (arith, m .ensures, s .pre .1) in
+    let bits = gathered (a .k) (l .i) (m .result) (v .result) (a .words .now) i (v .ensures) .1 in (
+      put .push .kept .0 ∙ l .inv .0,
+      omega (arith, m .ensures),
+      rw (take-add (l .i) (m .result) d, ← drop-take (l .i) (m .result) d) (pushed-append (l .inv .2) (rw bits at (put .push .ensures))),
     )
 
-add-t19 : tie.Need-add-t19 Inv-loop μ-loop
-add-t19 c = search needs
-
+-- src/lib.rt:73:1
 same-length : tie.Need-same-length Inv-loop μ-loop
 same-length c = search needs
 
-returns-2 : tie.Need-returns-2 Inv-loop μ-loop
-returns-2 c =
-    let fit = c .before .before in
-    let a = fit .before .before .before .before .args in
-    let bits = plane (a .k) (a .words .now) in
-    let long = first-length (a .k) (a .words .now) (a .n) (omega arith) in
-    let all = partly-all (a .n) (c .before .loop .inv .1) (omega arith) (omega (arith, fit .below .ensures)) in
-    let first = take-take (fit .below .result) (a .n) bits (omega (arith, fit .below .ensures)) in
-    (written-cut {next = c .before .loop .next} (a .n) (take (a .n) bits) long (fit .below .ensures) (rw first (all .0)), all .1)
+-- src/lib.rt:73:1
+returns : tie.Need-returns Inv-loop μ-loop
+returns c =
+    let l = c .before .loop in
+    let s = c .before .before .before .before in
+    let a = s .args in
+    let e : l .i ≡ a .n = omega arith in
+    let p = rw e at (l .inv .2) in
+    (p, rw (first-length (a .k) (a .words .now) (a .n) (s .pre .1)) at (pushed-most (s .pre .2) p))
 
 pub verbatim-spec : {M : Type 1} → statement M
 verbatim-spec =
@@ -93,16 +114,15 @@ verbatim-spec =
     (tie.spec
     Inv-loop
     μ-loop
-    returns
-    below-requires
     loop-holds
-    sub-piece
-    piece-requires
+    sub-least
+    least-requires
     gather-requires
-    put-part-requires
+    cast-push
+    cast-push-2
+    push-requires
     add-i
     loop-less
     loop-again
-    add-t19
     same-length
-    returns-2)
+    returns)
