@@ -1,8 +1,8 @@
 -- The count of planes that an exact code has: it is from 1 to the word size, all lower planes are zero, and no smaller count has that.
-use mathlib.Core.Path.{_≡_, refl, sym, ap, _∙_}
+use mathlib.Core.Path.{_≡_, refl, sym, _∙_}
 use mathlib.Core.Bool.{Bool, true, false, cond, true≢false}
 use mathlib.Core.List.{List}
-use Prim.Native.Nat.{ℕ, zero, suc, _-_, _≤_, _<_}
+use Prim.Native.Nat.{ℕ, zero, suc, _+_, _-_, _≤_, _<_}
 use native.Mathlib.Decide.{decLe}
 use native.Mathlib.Omega.{arith}
 use Rattle.planes.specs.Coder.{plane, any}
@@ -40,6 +40,20 @@ least-smallest w (suc p) us q h h1 l = go (any (plane (w - suc p) us)) refl (lea
           | no n ↦ absurd (true≢false (sym e ∙ low-none (w - suc p) us (low-down (suc (w - suc p)) (w - q) us (omega arith) l)))
         ]
 
+-- by the lowest plane that has a one, if there is one
+least-at : (w p low : ℕ) (us : List ℕ) → p ≤ w → w ≤ low + p → low < w → ((j : ℕ) → j < low → any (plane j us) ≡ false) → any (plane low us) ≡ true
+    → leastPlanes w p us ≡ w - low
+least-at w zero low us h k l none one = absurd (omega arith)
+least-at w (suc p) low us h k l none one =
+    elim (decLe low (w - suc p)) [
+      | yes y ↦ let e : w - suc p ≡ low = omega arith in rw (e, one) (omega arith)
+      | no n ↦ rw (none (w - suc p) (omega arith)) (least-at w p low us (omega arith) (omega arith) l none one)
+    ]
+
+least-none : (w p : ℕ) (us : List ℕ) → p ≤ w → ((j : ℕ) → j < w → any (plane j us) ≡ false) → leastPlanes w p us ≡ 1
+least-none w zero us h none = refl
+least-none w (suc p) us h none = rw (none (w - suc p) (omega arith)) (least-none w p us (omega arith) none)
+
 module _ (w : ℕ) (us : List ℕ) where
   pub needed-range : 1 ≤ w → (1 ≤ planesNeeded w us) × (planesNeeded w us ≤ w)
   unfolding planesNeeded
@@ -64,22 +78,13 @@ module _ (w : ℕ) (us : List ℕ) where
       go zero k = absurd (omega arith)
       go (suc p) k = let z : suc p - suc p ≡ 0 = omega arith in rw (z, e)
 
--- a search from the lowest plane up
-module _ (w p : ℕ) (us : List ℕ) (some : 0 < p) where
-  step : leastPlanes w p us ≡ cond (any (plane (w - p) us)) p (leastPlanes w (p - 1) us)
-  step =
-      let e : p ≡ suc (p - 1) = omega arith in
-      ap (λ (n : ℕ). leastPlanes w n us) e ∙ ap (λ (n : ℕ). cond (any (plane (w - n) us)) n (leastPlanes w (p - 1) us)) (sym e)
+  -- where no plane below `low` has a one: that of the planes from `low` up, if it has a one
+  module _ (low : ℕ) (none : (j : ℕ) → j < low → any (plane j us) ≡ false) where
+    pub needed-at : low < w → any (plane low us) ≡ true → planesNeeded w us ≡ w - low
+    unfolding planesNeeded
+    needed-at h one = least-at w w low us (omega arith) (omega arith) h none one
 
-  pub least-found : any (plane (w - p) us) ≡ true → leastPlanes w p us ≡ p
-  least-found h = step ∙ rw h
-
-  pub least-next : any (plane (w - p) us) ≡ false → leastPlanes w p us ≡ leastPlanes w (p - 1) us
-  least-next h = step ∙ rw h
-
-pub least-one : (w : ℕ) (us : List ℕ) → leastPlanes w 1 us ≡ 1
-least-one w us = go (any (plane (w - 1) us))
-  where
-    go : (b : Bool) → _≡_ {A = ℕ} (cond b 1 1) 1
-    go true = refl
-    go false = refl
+    -- and 1, if all planes are below `low`
+    pub needed-one : w ≤ low → planesNeeded w us ≡ 1
+    unfolding planesNeeded
+    needed-one h = least-none w w us (omega arith) (λ j k. none j (omega arith))

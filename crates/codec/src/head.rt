@@ -14,15 +14,8 @@ pub fn planes_needed(size: u32, us: &[u64]) -> u32
     requires { ⌜ (1 ≤ size) × (size ≤ 64) ⌝ }
     ensures { λ r. ⌜ r ≡ planesNeeded size (now (us .entry)) ⌝ }
 {
-    let ones = plane_writer::planes_with_ones(us);
-    let mut p = size;
-    while 1 < p {
-        if (ones >> (size - p)) % 2 == 1 {
-            return p;
-        }
-        p -= 1;
-    }
-    1
+    let low = u64::trailing_zeros(plane_writer::planes_with_ones(us));
+    if low < size { size - low } else { 1 }
 }
 
 // What an exponent field is above its exponent.

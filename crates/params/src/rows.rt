@@ -9,7 +9,7 @@ use crate::LOWEST_OFFSET;
 use crate::Params;
 use crate::TOP_DIMENSION;
 use crate::WIDEST;
-use crate::width::slots_in;
+use crate::width::slot_in;
 use crate::width::word_count;
 
 // Whether a number lies from one bound to another.
@@ -80,9 +80,5 @@ pub fn place_row(p: Params, size: usize, slot: usize, n: usize) -> u32
     if found != 0 {
         return found;
     }
-    row(
-        7,
-        !(slot < slots_in(p, size)),
-        row(8, !(n == word_count(p)), 0),
-    )
+    row(7, !slot_in(p, size, slot), row(8, !(n == word_count(p)), 0))
 }

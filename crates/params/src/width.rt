@@ -1,8 +1,9 @@
 // The sizes that follow from the parameters: N, W and the slot count.
 ghost use mathlib.Core.Path.{_≡_};
 ghost use Prim.Native.Nat.{_≤_};
+ghost use lib.Dec.{ltb};
 ghost use Rattle.params.specs.Dimension.{Dimension};
-ghost use Rattle.params.specs.Width.{wordCount, zeroWidth, widthOf, slotsIn};
+ghost use Rattle.params.specs.Width.{wordCount, widestSlot, zeroWidth, widthOf, slotsIn};
 use crate::Params;
 
 // N, for a good dimension.
@@ -41,4 +42,15 @@ pub fn slots_in(p: Params, size: usize) -> usize
     ensures { λ r. ⌜ r ≡ slotsIn p size ⌝ }
 {
     8 * size / width_of(p)
+}
+
+// Whether an archive of good size has the slot, by a product and no division: no archive has 32,768 slots and one more.
+pub fn slot_in(p: Params, size: usize, slot: usize) -> bool
+    requires { ⌜ Dimension (p .dimension) × (16 ≤ widthOf p) × (widthOf p ≤ widestSlot) × (size ≤ 65536) ⌝ }
+    ensures { λ r. ⌜ r ≡ ltb slot (slotsIn p size) ⌝ }
+{
+    if 32768 <= slot {
+        return false;
+    }
+    (slot + 1) * width_of(p) <= 8 * size
 }

@@ -17,10 +17,10 @@ returns c =
     let e = c .before .count-row .ensures in
     e ∙ sym (first-some (countRows (s .p) (s .size)) (row7 (s .p) (s .size) (s .slot) ∷ row8 (s .p) (s .n) ∷ []) (λ z. c .if1 .taken (e ∙ z)))
 
-slots-in-requires : tie.Need-slots-in-requires
-slots-in-requires c κs =
+slot-in-requires : tie.Need-slot-in-requires
+slot-in-requires c κs =
     let h = sized (c .before .before .args .p) (c .before .before .args .size) (sym (c .before .count-row .ensures) ∙ c .if1 .left) in
-    (h .0 .dimension, h .0 .width-from, h .1)
+    (h .0 .dimension, h .0 .width-from, h .0 .width-to, h .1)
 
 word-count-requires : tie.Need-word-count-requires
 word-count-requires c κs =
@@ -39,7 +39,7 @@ returns-2 c =
     let found = n .before .before .before in
     let s = found .before .args in
     let e = sym (found .count-row .ensures) ∙ n .before .before .if1 .left in
-    rw (c .row2 .ensures, c .before .row .ensures, n .word-count .ensures, n .before .slots-in .ensures)
+    rw (c .row2 .ensures, c .before .row .ensures, n .word-count .ensures, n .before .slot-in .ensures)
     (sym (first-zero (countRows (s .p) (s .size)) (row7 (s .p) (s .size) (s .slot) ∷ row8 (s .p) (s .n) ∷ []) refl e))
 
 pub place-row-spec : {M : Type 1} → statement M
@@ -48,7 +48,7 @@ place-row-spec =
     (tie.spec
     count-row-requires
     returns
-    slots-in-requires
+    slot-in-requires
     word-count-requires
     row-requires
     row-requires-2
