@@ -1,2 +1,2 @@
 -- The laws of reading planes, as the code goes.
-pub mod Reading
+pub mod Parts
