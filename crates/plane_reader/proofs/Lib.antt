@@ -1,2 +1,3 @@
 -- The laws of reading planes, as the code goes.
 pub mod Parts
+pub mod Adding
