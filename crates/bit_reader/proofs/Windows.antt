@@ -2,13 +2,14 @@
 use mathlib.Core.Path.{_≡_, refl, sym, ap, _∙_}
 use mathlib.Core.Bool.{Bool}
 use mathlib.Core.List.{List, _++_}
-use Prim.Native.Nat.{ℕ, _+_, _-_, _*_, _/_, _%_, _^_, _≤_, _<_}
+use Prim.Native.Nat.{ℕ, _+_, _-_, _*_, _/_, _%_, _^_, _≤_, _<_, min}
 use native.Mathlib.Nat.{div-one, mod-eq-of-lt, lt-of-lt-of-le, add-comm}
 use native.Mathlib.Omega.{arith}
-use lib.ListN.{length, getD}
+use lib.ListN.{length, getD, take}
 use lib.Pow.{pow-mono, high}
-use lib.Seq.{slice, slice-empty}
+use lib.Seq.{slice, slice-empty, take-append-le}
 use Rattle.bits.specs.Stream.{numberBits, numberOf, bitsOf}
+use Rattle.bits.proofs.NumberLaws.{length-numberBits, numberBits-take}
 use Rattle.bits.proofs.StreamLaws.{length-bitsOf, number-parts, number-lt, part-number, part-back, slice-split}
 use Rattle.bit_reader.specs.declared.Window.{Window}
 use Rattle.bit_reader.specs.Calls.{place, Holds, longer, shorter, Longer, Taken}
@@ -95,6 +96,14 @@ unread {d} {end} {w} h long =
     let bits : numberBits (w .count) (w .bits) ≡ slice (place w) (w .at) d =
     rw (h .same) (rw f at (part-back d (place w) (w .count) (omega (arith, h .back, h .within)))) in
     rw bits (rw f at (slice-split d (place w) (w .count) end (omega (arith, h .back, h .within))))
+
+-- its m first bits are the next of the stream
+pub next-bits : {d : List Bool} {end : ℕ} {w : Window} (m : ℕ) → Holds d end w → end ≤ length d → m ≤ w .count
+    → numberBits m (w .bits) ≡ take m (slice (place w) end d)
+next-bits {d} {end} {w} m h long k =
+    let few : min (w .count) m ≡ m = omega arith in
+    let l = length-numberBits (w .count) (w .bits) in
+    rw (unread h long, take-append-le m (numberBits (w .count) (w .bits)) (slice (w .at) end d) (omega arith), numberBits-take m (w .count) (w .bits), few)
 
 -- a window with no bits yet
 pub empty-holds : (d : List Bool) (at end : ℕ) → at ≤ end → Holds d end (record { at = at; bits = 0; count = 0 })

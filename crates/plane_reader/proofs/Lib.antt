@@ -1,3 +1,4 @@
 -- The laws of reading planes, as the code goes.
 pub mod Parts
 pub mod Adding
+pub mod First
