@@ -14,6 +14,9 @@ use Rattle.bits.proofs.StreamLaws.{length-bitsOf, number-parts, number-lt, part
 use Rattle.bit_reader.specs.declared.Window.{Window}
 use Rattle.bit_reader.specs.Calls.{place, Holds, longer, shorter, Longer, Taken}
 
+pub within-bits : {end : ℕ} (l : List ℕ) → end ≤ 8 * length l → end ≤ length (bitsOf l)
+within-bits l h = rw (length-bitsOf l) h
+
 -- ---- the numbers of whole bytes
 
 byte-number : (l : List ℕ) (i : ℕ) → i < length l → getD l i 0 < 2 ^ 8 → numberOf (slice (8 * i) (8 * i + 8) (bitsOf l)) ≡ getD l i 0

@@ -2,3 +2,5 @@
 pub mod Parts
 pub mod Adding
 pub mod First
+pub mod Stages
+pub mod Tests

@@ -2,7 +2,7 @@
 use Rattle.plane_reader.proofs.First.{Begun, begun-none, begun-room, begun-more, begun-cut, begun-all, least-fits, least-less}
 use Rattle.bit_reader.specs.Calls.{place}
 use Rattle.bits.specs.Stream.{bitsOf}
-use Rattle.bits.proofs.StreamLaws.{length-bitsOf}
+use Rattle.bit_reader.proofs.Windows.{within-bits}
 use lib.ListN.{length}
 use native.Mathlib.Omega.{arith}
 use native.Mathlib.Nat.{le-trans}
@@ -37,12 +37,12 @@ returns : tie.Need-returns Inv-loop μ-loop
 returns c =
     let l = c .before .before .before .before .before .loop in
     let a = c .before .before .before .before .before .before .before .before .args in
-    begun-cut (l .inv .2) (omega (arith, length-bitsOf (a .buf .now))) (c .before .before .before .refill .ensures) (a .n) (omega arith) (omega arith)
+    begun-cut (l .inv .2) (within-bits (a .buf .now) (omega arith)) (c .before .before .before .refill .ensures) (a .n) (omega arith) (omega arith)
 add-bits-requires : tie.Need-add-bits-requires Inv-loop μ-loop
 add-bits-requires c κs =
     let l = c .before .before .before .before .before .before .loop in
     let s = c .before .before .before .before .before .before .before .before .before in
-    let room = begun-room (l .inv .2) (omega (arith, length-bitsOf (s .args .buf .now))) (omega arith) (s .pre .5) in
+    let room = begun-room (l .inv .2) (within-bits (s .args .buf .now) (s .pre .2)) (omega arith) (s .pre .5) in
     (search needs, search needs, omega (arith, c .before .before .before .before .refill .ensures .holds .few), room)
 cast-taken : tie.Need-cast-taken Inv-loop μ-loop
 cast-taken c = omega (arith, c .before .before .before .before .before .before .before .refill .ensures .holds .few)
@@ -65,7 +65,7 @@ loop-again c =
     let fits = least-fits (a .n) (l .i) have (c .before .before .before .before .before .before .least .ensures) (c .before .before .before .before .before .before .before .before .before .loop-test .taken) in (
       fits .0,
       call .add-bits .kept .0 ∙ l .inv .1,
-      begun-more (l .inv .2) (rw (length-bitsOf (a .buf .now)) (s .pre .2)) (c .before .before .before .before .before .before .before .before .refill .ensures) _ (le-trans (fits .0) (s .pre .1)) (fits .1)
+      begun-more (l .inv .2) (within-bits (a .buf .now) (s .pre .2)) (c .before .before .before .before .before .before .before .before .refill .ensures) _ (le-trans (fits .0) (s .pre .1)) (fits .1)
           (call .add-bits .ensures) (c .taken .ensures),
     )
 same-length-2 : tie.Need-same-length-2 Inv-loop μ-loop
@@ -74,7 +74,7 @@ returns-2 : tie.Need-returns-2 Inv-loop μ-loop
 returns-2 c =
     let l = c .before .loop in
     let a = c .before .before .before .before .args in
-    begun-all (l .inv .2) (omega (arith, length-bitsOf (a .buf .now))) (a .n) (omega arith)
+    begun-all (l .inv .2) (within-bits (a .buf .now) (omega arith)) (a .n) (omega arith)
 
 pub read-verbatim-spec : {M : Type 1} → statement M
 read-verbatim-spec =
