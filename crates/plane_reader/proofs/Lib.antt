@@ -4,3 +4,4 @@ pub mod Adding
 pub mod First
 pub mod Stages
 pub mod Tests
+pub mod Reading
