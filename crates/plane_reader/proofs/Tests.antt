@@ -53,11 +53,12 @@ module _ {ws₀ ws : List ℕ} {k n i : ℕ} {G : Got} {d : List Bool} {end : �
   pub going-last : stage < 2 → r ≡ 0 → (stage ≡ 1 → 0 < r) → TestsRead ws₀ ws k n d end G w i true
   going-last l e some = going-done (rw (stage-last stage (slice (place w) end d) r l e (λ z. omega (arith, some z))) at go) h
 
--- what a part of m places from place i of N on does, read through the window r of the bits up to `end`; `left` bits of it are left
-pub record PartDone (d : List Bool) (end N i : ℕ) (w r : Window) (stage m x to stage′ left : ℕ) : Type 0 where
+-- what reading a part from place i of N on through the window r does: `to` places are passed, whose bits are x, and `left` bits of the window are left
+pub record PartDone (d : List Bool) (end N i : ℕ) (w r : Window) (stage x to stage′ left : ℕ) : Type 0 where
   pub few : left ≤ r .count
-  pub within : to ≤ m
-  pub goes : stage′ < 2 → to ≡ m
+  pub short : to ≤ 16
+  pub fits : i + to ≤ N
+  pub less : stage′ < 2 → N - (i + to) < N - i
   pub more : stage′ ≡ 1 → i + to < N
   pub holds : Holds d end (shorter r (r .count - left))
   pub got : readStage stage (slice (place w) end d) (N - i)
@@ -105,7 +106,8 @@ module _ {d : List Bool} {end : ℕ} {w r : Window} (N i stage m known : ℕ) (l
       let e : place w′ ≡ place r + u = shorter-holds u (f .holds) long (omega arith) .moved in
       let g : length t - length (p .rest) ≡ u = omega (arith, count, pr .left) in
       let b = takes .rest in
-      rw (e, slice-rest d (place r) u end, unread (f .holds) long, drop-append-le u t more (omega (arith, count)), ← g) (ap (λ (s : List Bool). s ++ more) (sym b))
+      rw (e, slice-rest d (place r) u end, unread (f .holds) long, drop-append-le u t more (omega (arith, count)), ← g)
+      (ap (λ (s : List Bool). s ++ more) (sym b))
 
   all : length t < 2 * m → more ≡ []
   all h = slice-none d (r .at) end (full (λ q. omega (arith, f .full q, count)))
@@ -123,35 +125,28 @@ module _ {d : List Bool} {end : ℕ} {w r : Window} (N i stage m known : ℕ) (l
       let same = stage-same stage′ (p .rest ++ more) (N - i - m) (N - (i + to)) (λ h. omega (arith, to-all h)) in
       rw (before, bits, after, ← same, pr .stage) (follows .got)
 
-  pub part-done : PartDone d end N i w r stage m x to stage′ left
+  pub part-done : PartDone d end N i w r stage x to stage′ left
   part-done =
       record {
         few = left-fits;
-        within = omega (arith, pr .moved, takes .within);
-        goes = to-all;
+        short = omega (arith, pr .moved, takes .within);
+        fits = omega (arith, pr .moved, takes .within);
+        less = λ h. omega (arith, to-all h);
         more = λ h. omega (arith, to-all (omega arith), follows .left (sym (pr .stage) ∙ h));
         holds = shorter-holds (r .count - left) (f .holds) long (omega arith) .holds;
         got = got;
       }
 
 -- the words, and the window, after it
-module _ {d : List Bool} {end i : ℕ} {w r : Window} {stage m x to stage′ left : ℕ} {ws′ : List ℕ} (k : ℕ) (ws : List ℕ)
-    (p : PartDone d end (length ws) i w r stage m x to stage′ left) (h : i + m ≤ length ws) (e : ws′ ≡ addAt i k (numberBits to x) ws) where
+module _ {d : List Bool} {end i : ℕ} {w r : Window} {stage x to stage′ left : ℕ} {ws′ : List ℕ} (k : ℕ) (ws : List ℕ)
+    (p : PartDone d end (length ws) i w r stage x to stage′ left) (e : ws′ ≡ addAt i k (numberBits to x) ws) where
+  within : i + length (numberBits to x) ≤ length ws
+  within = rw (length-numberBits to x) (p .fits)
+
   pub part-room : Room 64 (suc k) (drop i ws) → Room 64 (suc k) (drop (i + to) ws′)
-  part-room room =
-      let b = length-numberBits to x in
-      rw e (rw b at (room-after 64 k i (numberBits to x) ws (omega (arith, b, p .within)) room))
+  part-room room = rw e (rw (length-numberBits to x) at (room-after 64 k i (numberBits to x) ws within room))
 
   pub part-going : {ws₀ : List ℕ} {n : ℕ} {G : Got} {w′ : Window} → Going ws₀ ws k n i G (readStage stage (slice (place w) end d) (length ws - i))
       → length ws′ ≡ length ws → w′ ≡ shorter r (r .count - left)
       → Going ws₀ ws′ k n (i + to) G (readStage stage′ (slice (place w′) end d) (length ws′ - (i + to)))
-  part-going go same f =
-      let b = length-numberBits to x in
-      rw (same, f, e) (rw b at (going-more (numberBits to x) (rw (p .got) at go) (omega (arith, b, p .within))))
-
--- the places of a part are places of the plane, and where all are passed, fewer are left
-pub least-places : {m : ℕ} (N i : ℕ) → m ≡ min 16 (N - i) → i < N → (i + m ≤ N) × (m ≤ 16)
-least-places N i e h = (omega arith, omega arith)
-
-pub fewer-places : {m to : ℕ} (N i : ℕ) → m ≡ min 16 (N - i) → i < N → to ≡ m → N - (i + to) < N - i
-fewer-places N i e h f = omega arith
+  part-going go same f = rw (same, f, e) (rw (length-numberBits to x) at (going-more (numberBits to x) (rw (p .got) at go) within))

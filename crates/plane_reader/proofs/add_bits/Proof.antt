@@ -19,11 +19,13 @@ Inv-loop words₀ k i count x j₀ words j =
 
 abbrev μ-loop : tie.MeasureT-loop
 μ-loop words₀ k i count x j₀ words j = count - j
+
 returns : tie.Need-returns Inv-loop μ-loop
 returns c =
     let s = c .before .before in
     let a = s .args in
     rw (c .if1 .taken) (sym (add-zeros (a .i) (a .k) (a .count) (a .words .now) (s .pre .1)))
+
 loop-holds : tie.Need-loop-holds Inv-loop μ-loop
 loop-holds c =
     let s = c .before .before in
@@ -31,18 +33,24 @@ loop-holds c =
     let here : a .i + 0 ≡ a .i = omega arith in
     let all : a .count - 0 ≡ a .count = omega arith in
     (search needs, refl, rw here (s .pre .3), rw (here, all, div-one))
+
 add-add-bit : tie.Need-add-add-bit Inv-loop μ-loop
 add-add-bit c = search needs
+
 shr-add-bit : tie.Need-shr-add-bit Inv-loop μ-loop
 shr-add-bit c = search needs
+
 add-bit-requires : tie.Need-add-bit-requires Inv-loop μ-loop
 add-bit-requires c κs =
     let l = c .before .before .loop in
     (search needs, search needs, room-here 64 _ _ (l .words) (omega arith) (l .inv .2))
+
 add-j : tie.Need-add-j Inv-loop μ-loop
 add-j c = search needs
+
 loop-less : tie.Need-loop-less Inv-loop μ-loop
 loop-less c = search needs
+
 loop-again : tie.Need-loop-again Inv-loop μ-loop
 loop-again c =
     let call = c .before .before in
@@ -57,8 +65,10 @@ loop-again c =
       rw (next, call .add-bit .ensures) (room-set 64 (a .k) place _ (l .words) few (l .inv .2)),
       rw (next, call .add-bit .ensures, ← (shr-shr (a .x) (l .j) 1)) (sym (add-cons place (a .k) _ _ (l .words) few) ∙ (rw e at (l .inv .3))),
     )
+
 same-length : tie.Need-same-length Inv-loop μ-loop
 same-length c = search needs
+
 returns-2 : tie.Need-returns-2 Inv-loop μ-loop
 returns-2 c =
     let l = c .before .loop in

@@ -8,12 +8,15 @@ use Rattle.plane_reader.proofs.read_part.Tie as tie
 
 read-test-requires : tie.Need-read-test-requires
 read-test-requires c κs = search needs
+
 read-scan-requires : tie.Need-read-scan-requires
 read-scan-requires c κs = search needs
+
 returns : tie.Need-returns
 returns c =
     let s = c .before .before .before .before .before .before in
     rw (c .before .before .before .before .if1 .taken) (rw (s .pre .1) at (c .read-test .ensures))
+
 returns-2 : tie.Need-returns-2
 returns-2 c =
     let s = c .before .before .before .before .before .before in

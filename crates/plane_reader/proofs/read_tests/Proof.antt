@@ -1,7 +1,6 @@
 -- The invariant: what is left of the plane, read from here, gives with what is done what all of it gives. Assumes nothing.
-use Rattle.plane_reader.proofs.Adding.{room-after}
 use Rattle.plane_reader.proofs.Stages.{readStage}
-use Rattle.plane_reader.proofs.Tests.{Going, going-none, going-ended, going-last, part-done, part-room, part-going, least-places, fewer-places}
+use Rattle.plane_reader.proofs.Tests.{Going, going-none, going-ended, going-last, PartDone, part-done, part-room, part-going}
 use Rattle.planes.specs.Reader.{readTest}
 use Rattle.planes.specs.Calls.{Room}
 use Rattle.bit_reader.specs.Calls.{place, Holds}
@@ -10,7 +9,7 @@ use Rattle.bit_reader.proofs.Windows.{within-bits}
 use lib.ListN.{length, drop}
 use lib.Seq.{slice}
 use native.Mathlib.Omega.{arith}
-use Prim.Native.Nat.{suc, _+_, _≤_, _<_, _-_}
+use Prim.Native.Nat.{suc, _≤_, _<_, _-_}
 use mathlib.Core.Path.{_≡_, refl, _∙_}
 use borrow.Author.Needs.{needs}
 use Rattle.plane_reader.proofs.read_tests.Statement.{statement}
@@ -46,91 +45,63 @@ known-at-requires : tie.Need-known-at-requires Inv-loop μ-loop
 known-at-requires c κs = search needs
 read-part-requires : tie.Need-read-part-requires Inv-loop μ-loop
 read-part-requires c κs = search needs
-sub-taken : tie.Need-sub-taken Inv-loop μ-loop
-sub-taken c =
-    let at-part = c in
+-- what the part that is read does
+part : (c : tie.After-read-part Inv-loop μ-loop)
+    → let l = c .before .before .before .before .before .before .before .before .loop in
+      let a = c .before .before .before .before .before .before .before .before .before .before .before .args in
+      let after = c .read-part .last .1 .1 .1 .1 in
+      PartDone (bitsOf (a .buf .now)) (a .end) (length (l .words)) (l .i) (l .next) (c .before .before .before .before .before .before .refill .result) (l .stage)
+      (after .0) (after .1 .0) (after .1 .1 .0) (c .read-part .result)
+part c =
     let l = c .before .before .before .before .before .before .before .before .loop in
     let s = c .before .before .before .before .before .before .before .before .before .before .before in
-    let test = c .before .before .before .before .before .before .before .loop-test .taken in
-    let least = c .before .before .before .before .before .least .ensures in
-    let done = part-done (length (l .words)) (l .i) (l .stage) _ _ (within-bits (s .args .buf .now) (s .pre .2)) (c .before .before .before .before .before .before .refill .ensures) test (l .inv .2) least (c .before .before .before .before .known-at .ensures) (at-part .read-part .ensures) in
-    let places = least-places (length (l .words)) (l .i) least test in
-    done .few
+    part-done (length (l .words)) (l .i) (l .stage) _ _ (within-bits (s .args .buf .now) (s .pre .2)) (c .before .before .before .before .before .before .refill .ensures)
+    (c .before .before .before .before .before .before .before .loop-test .taken) (l .inv .2) (c .before .before .before .before .before .least .ensures) (c .before .before .before .before .known-at .ensures) (c .read-part .ensures)
+
+sub-taken : tie.Need-sub-taken Inv-loop μ-loop
+sub-taken c = part c .few
 taken-requires : tie.Need-taken-requires Inv-loop μ-loop
 taken-requires c κs =
-    let at-part = c in
-    let l = c .before .before .before .before .before .before .before .before .loop in
-    let s = c .before .before .before .before .before .before .before .before .before .before .before in
-    let test = c .before .before .before .before .before .before .before .loop-test .taken in
-    let least = c .before .before .before .before .before .least .ensures in
-    let done = part-done (length (l .words)) (l .i) (l .stage) _ _ (within-bits (s .args .buf .now) (s .pre .2)) (c .before .before .before .before .before .before .refill .ensures) test (l .inv .2) least (c .before .before .before .before .known-at .ensures) (at-part .read-part .ensures) in
-    let places = least-places (length (l .words)) (l .i) least test in
     let few = c .before .before .before .before .before .before .refill .ensures .holds .few in
     (omega arith, omega arith)
 add-bits-requires : tie.Need-add-bits-requires Inv-loop μ-loop
 add-bits-requires c κs =
-    let at-part = c .before .before .before in
+    let done = part (c .before .before .before) in
     let l = c .before .before .before .before .before .before .before .before .before .before .before .loop in
     let s = c .before .before .before .before .before .before .before .before .before .before .before .before .before .before in
-    let test = c .before .before .before .before .before .before .before .before .before .before .loop-test .taken in
-    let least = c .before .before .before .before .before .before .before .before .least .ensures in
-    let done = part-done (length (l .words)) (l .i) (l .stage) _ _ (within-bits (s .args .buf .now) (s .pre .2)) (c .before .before .before .before .before .before .before .before .before .refill .ensures) test (l .inv .2) least (c .before .before .before .before .before .before .before .known-at .ensures) (at-part .read-part .ensures) in
-    let places = least-places (length (l .words)) (l .i) least test in
-    (s .pre .0, omega (arith, places, done .within), omega (arith, places, done .within), l .inv .5)
+    (s .pre .0, done .fits, omega (arith, done .short), l .inv .5)
 add-i : tie.Need-add-i Inv-loop μ-loop
 add-i c =
-    let at-part = c .before .before .before .before .before .before in
-    let l = c .before .before .before .before .before .before .before .before .before .before .before .before .before .before .loop in
     let s = c .before .before .before .before .before .before .before .before .before .before .before .before .before .before .before .before .before in
-    let test = c .before .before .before .before .before .before .before .before .before .before .before .before .before .loop-test .taken in
-    let least = c .before .before .before .before .before .before .before .before .before .before .before .least .ensures in
-    let done = part-done (length (l .words)) (l .i) (l .stage) _ _ (within-bits (s .args .buf .now) (s .pre .2)) (c .before .before .before .before .before .before .before .before .before .before .before .before .refill .ensures) test (l .inv .2) least (c .before .before .before .before .before .before .before .before .before .before .known-at .ensures) (at-part .read-part .ensures) in
-    let places = least-places (length (l .words)) (l .i) least test in
-    let fits = c .before .before .before .before .before .before .before .before .before .before .before .before .before .before .before .slice-known .given in
-    omega (arith, places, done .within)
+    omega (arith, part (c .before .before .before .before .before .before) .fits, c .before .before .before .before .before .before .before .before .before .before .before .before .before .before .loop .inv .1)
 same-length : tie.Need-same-length Inv-loop μ-loop
 same-length c = search needs
 returns : tie.Need-returns Inv-loop μ-loop
 returns c =
-    let at-part = c .before .before .before .before .before .before .before in
+    let done = part (c .before .before .before .before .before .before .before) in
     let l = c .before .before .before .before .before .before .before .before .before .before .before .before .before .before .before .loop in
     let s = c .before .before .before .before .before .before .before .before .before .before .before .before .before .before .before .before .before .before in
-    let test = c .before .before .before .before .before .before .before .before .before .before .before .before .before .before .loop-test .taken in
-    let least = c .before .before .before .before .before .before .before .before .before .before .before .before .least .ensures in
-    let done = part-done (length (l .words)) (l .i) (l .stage) _ _ (within-bits (s .args .buf .now) (s .pre .2)) (c .before .before .before .before .before .before .before .before .before .before .before .before .before .refill .ensures) test (l .inv .2) least (c .before .before .before .before .before .before .before .before .before .before .before .known-at .ensures) (at-part .read-part .ensures) in
-    let places = least-places (length (l .words)) (l .i) least test in
     let call = c .before .before .before .add-bits in
     let next = c .before .before .before .before .before .before .taken .ensures in
-    going-ended _ _ (part-going (s .args .k) (l .words) done (places .0) (call .ensures) (l .inv .6) (call .kept .0) next) (rw next (done .holds)) (c .if1 .taken)
+    going-ended _ _ (part-going (s .args .k) (l .words) done (call .ensures) (l .inv .6) (call .kept .0) next) (rw next (done .holds)) (c .if1 .taken)
 loop-less : tie.Need-loop-less Inv-loop μ-loop
 loop-less c =
-    let at-part = c .before .before .before .before .before .before .before in
-    let l = c .before .before .before .before .before .before .before .before .before .before .before .before .before .before .before .loop in
-    let s = c .before .before .before .before .before .before .before .before .before .before .before .before .before .before .before .before .before .before in
-    let test = c .before .before .before .before .before .before .before .before .before .before .before .before .before .before .loop-test .taken in
-    let least = c .before .before .before .before .before .before .before .before .before .before .before .before .least .ensures in
-    let done = part-done (length (l .words)) (l .i) (l .stage) _ _ (within-bits (s .args .buf .now) (s .pre .2)) (c .before .before .before .before .before .before .before .before .before .before .before .before .before .refill .ensures) test (l .inv .2) least (c .before .before .before .before .before .before .before .before .before .before .before .known-at .ensures) (at-part .read-part .ensures) in
-    let places = least-places (length (l .words)) (l .i) least test in
-    let call = c .before .before .before .add-bits in
-    rw (call .kept .0) (fewer-places (length (l .words)) (l .i) least test (done .goes (omega arith)))
+    let done = part (c .before .before .before .before .before .before .before) in
+    rw (c .before .before .before .add-bits .kept .0) (done .less (omega arith))
 loop-again : tie.Need-loop-again Inv-loop μ-loop
 loop-again c =
-    let at-part = c .before .before .before .before .before .before .before in
+    let done = part (c .before .before .before .before .before .before .before) in
     let l = c .before .before .before .before .before .before .before .before .before .before .before .before .before .before .before .loop in
     let s = c .before .before .before .before .before .before .before .before .before .before .before .before .before .before .before .before .before .before in
-    let test = c .before .before .before .before .before .before .before .before .before .before .before .before .before .before .loop-test .taken in
-    let least = c .before .before .before .before .before .before .before .before .before .before .before .before .least .ensures in
-    let done = part-done (length (l .words)) (l .i) (l .stage) _ _ (within-bits (s .args .buf .now) (s .pre .2)) (c .before .before .before .before .before .before .before .before .before .before .before .before .before .refill .ensures) test (l .inv .2) least (c .before .before .before .before .before .before .before .before .before .before .before .known-at .ensures) (at-part .read-part .ensures) in
-    let places = least-places (length (l .words)) (l .i) least test in
     let call = c .before .before .before .add-bits in
     let next = c .before .before .before .before .before .before .taken .ensures in (
-      rw (call .kept .0) (omega (arith, places, done .within)),
+      rw (call .kept .0) (done .fits),
       call .kept .0 ∙ l .inv .1,
       omega arith,
       (λ h. rw (call .kept .0) (done .more h)),
       rw next (done .holds),
-      part-room (s .args .k) (l .words) done (places .0) (call .ensures) (l .inv .5),
-      part-going (s .args .k) (l .words) done (places .0) (call .ensures) (l .inv .6) (call .kept .0) next,
+      part-room (s .args .k) (l .words) done (call .ensures) (l .inv .5),
+      part-going (s .args .k) (l .words) done (call .ensures) (l .inv .6) (call .kept .0) next,
     )
 same-length-2 : tie.Need-same-length-2 Inv-loop μ-loop
 same-length-2 c = search needs

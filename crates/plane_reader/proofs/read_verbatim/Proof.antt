@@ -17,44 +17,57 @@ Inv-loop buf end words₀ k n next₀ i₀ words next i = (i ≤ n) × (length w
 
 abbrev μ-loop : tie.MeasureT-loop
 μ-loop buf end words₀ k n next₀ i₀ words next i = n - i
+
 loop-holds : tie.Need-loop-holds Inv-loop μ-loop
 loop-holds c =
     let s = c .before .before in
     (search needs, refl, begun-none (s .args .words .now) (s .args .k) (s .pre .3))
+
 refill-requires : tie.Need-refill-requires Inv-loop μ-loop
 refill-requires c κs =
     let l = c .before .loop in
     (l .inv .2 .holds, search needs, search needs)
+
 cast-have : tie.Need-cast-have Inv-loop μ-loop
 cast-have c = search needs
+
 sub-least : tie.Need-sub-least Inv-loop μ-loop
 sub-least c = search needs
+
 least-requires : tie.Need-least-requires Inv-loop μ-loop
 least-requires c κs = search needs
+
 same-length : tie.Need-same-length Inv-loop μ-loop
 same-length c = search needs
+
 returns : tie.Need-returns Inv-loop μ-loop
 returns c =
     let l = c .before .before .before .before .before .loop in
     let a = c .before .before .before .before .before .before .before .before .args in
     begun-cut (l .inv .2) (within-bits (a .buf .now) (omega arith)) (c .before .before .before .refill .ensures) (a .n) (omega arith) (omega arith)
+
 add-bits-requires : tie.Need-add-bits-requires Inv-loop μ-loop
 add-bits-requires c κs =
     let l = c .before .before .before .before .before .before .loop in
     let s = c .before .before .before .before .before .before .before .before .before in
     let room = begun-room (l .inv .2) (within-bits (s .args .buf .now) (s .pre .2)) (omega arith) (s .pre .5) in
     (search needs, search needs, omega (arith, c .before .before .before .before .refill .ensures .holds .few), room)
+
 cast-taken : tie.Need-cast-taken Inv-loop μ-loop
 cast-taken c = omega (arith, c .before .before .before .before .before .before .before .refill .ensures .holds .few)
+
 taken-requires : tie.Need-taken-requires Inv-loop μ-loop
 taken-requires c κs = omega (arith, c .before .before .before .before .before .before .before .refill .ensures .holds .few)
+
 add-i : tie.Need-add-i Inv-loop μ-loop
 add-i c = search needs
+
 loop-less : tie.Need-loop-less Inv-loop μ-loop
 loop-less c =
     let l = c .before .before .before .before .before .before .before .before .before .before .loop in
     let a = c .before .before .before .before .before .before .before .before .before .before .before .before .before .args in
     least-less (a .n) (l .i) (c .before .before .before .before .before .before .before .before .before .loop-test .taken) (c .before .before .before .before .before .if1 .left)
+
 loop-again : tie.Need-loop-again Inv-loop μ-loop
 loop-again c =
     let l = c .before .before .before .before .before .before .before .before .before .before .loop in
@@ -68,8 +81,10 @@ loop-again c =
       begun-more (l .inv .2) (within-bits (a .buf .now) (s .pre .2)) (c .before .before .before .before .before .before .before .before .refill .ensures) _ (le-trans (fits .0) (s .pre .1)) (fits .1)
           (call .add-bits .ensures) (c .taken .ensures),
     )
+
 same-length-2 : tie.Need-same-length-2 Inv-loop μ-loop
 same-length-2 c = search needs
+
 returns-2 : tie.Need-returns-2 Inv-loop μ-loop
 returns-2 c =
     let l = c .before .loop in
