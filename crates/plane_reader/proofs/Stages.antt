@@ -1,5 +1,5 @@
 -- A part of the places read from the first of the bits, and then the rest of the plane from the stage that it ends in. Assumes nothing.
-use mathlib.Core.Path.{_≡_, refl, sym, ap, _∙_}
+use mathlib.Core.Path.{_≡_, refl, sym, ap}
 use mathlib.Core.Bool.{Bool, true, false, cond}
 use mathlib.Core.List.{List, [], _∷_, _++_}
 use Prim.Native.Nat.{ℕ, zero, suc, _+_, _-_, _*_, _≤_, _<_}
@@ -9,8 +9,8 @@ use borrow.Author.Tests.{eq-eqb, ne-eqb}
 use lib.Dec.{eqb}
 use lib.ListN.{length, drop}
 use Rattle.bits.specs.Stream.{digit}
-use Rattle.planes.specs.Reader.{Got, stop, cut, push, readTest, readScan}
-use Rattle.plane_reader.specs.Calls.{Part, ends, pushed, orKnown, partTest, partScan, partStage}
+use Rattle.planes.specs.Reader.{Got, stop, push, readTest, readScan}
+use Rattle.plane_reader.specs.Calls.{Part, ends, pushed, partTest, partScan, partStage}
 
 -- the rest of a plane, with r places left, from a stage on
 abbrev pub readStage : ℕ → List Bool → ℕ → Got

@@ -1,15 +1,15 @@
 -- What the reader's steps do.
 use mathlib.Core.Path.{_≡_}
-use mathlib.Core.Bool.{Bool, true, false, not, cond}
-use mathlib.Core.List.{List, [], _∷_, _++_}
-use Prim.Native.Nat.{ℕ, zero, suc, _+_, _-_, _*_, _^_, _≤_}
+use mathlib.Core.Bool.{Bool, true, false, cond}
+use mathlib.Core.List.{List, [], _∷_}
+use Prim.Native.Nat.{ℕ, zero, suc, _+_, _*_, _^_, _≤_}
 use lib.Dec.{eqb, leb}
 use lib.ListN.{length, take, drop}
 use lib.Seq.{slice}
 use Rattle.bits.specs.Stream.{numberOf}
 use Rattle.bit_reader.specs.declared.Window.{Window}
 use Rattle.bit_reader.specs.Calls.{place, Holds}
-use Rattle.planes.specs.Reader.{Got, stop, readTest, readScan, readPlane, readNext, addPlane, readWords, wholePlanes}
+use Rattle.planes.specs.Reader.{Got, readPlane, readNext, addPlane, readWords, wholePlanes}
 use Rattle.planes.specs.Calls.{addAt, restPlanes}
 
 -- ---- tests and scans on a part of the places

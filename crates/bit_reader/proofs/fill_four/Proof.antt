@@ -1,11 +1,9 @@
 -- The bits of four bytes. Assumes nothing.
 use Rattle.bit_reader.proofs.Windows.{longer-fits, longer-holds}
-use Rattle.bits.specs.Stream.{numberOf, bitsOf}
 use Rattle.bits.proofs.StreamLaws.{length-bitsOf}
-use lib.Seq.{slice}
 use native.Mathlib.Omega.{arith}
-use Prim.Native.Nat.{_+_, _*_, _/_}
-use mathlib.Core.Path.{_≡_, _∙_}
+use Prim.Native.Nat.{_*_, _/_}
+use mathlib.Core.Path.{_≡_}
 use borrow.Author.Needs.{needs}
 use Rattle.bit_reader.proofs.fill_four.Statement.{statement}
 use Rattle.bit_reader.proofs.fill_four.Tie as tie
