@@ -1,29 +1,35 @@
--- The invariant: the bits passed are added. Assumes nothing.
-use Rattle.plane_reader.proofs.Reading.{add-none, room-past, verbatim-more, first-least}
-use Rattle.planes.specs.Calls.{addAt}
+-- The invariant: the bits passed are added, and the window stands after them. Assumes nothing.
+use Rattle.plane_reader.proofs.First.{Begun, begun-none, begun-room, begun-more, begun-cut, begun-all, least-fits, least-less}
+use Rattle.bit_reader.specs.Calls.{place}
 use Rattle.bits.specs.Stream.{bitsOf}
-use Rattle.bits.proofs.StreamLaws.{length-bitsOf, slice-rest}
-use lib.Seq.{slice, length-slice}
-use lib.ListN.{length, take}
+use Rattle.bit_reader.proofs.Windows.{within-bits}
+use lib.ListN.{length}
 use native.Mathlib.Omega.{arith}
+use native.Mathlib.Nat.{le-trans}
 use Prim.Native.Nat.{_≤_, _-_}
-use mathlib.Core.Path.{_≡_, refl, sym, _∙_}
+use mathlib.Core.Path.{_≡_, refl, _∙_}
 use borrow.Author.Needs.{needs}
 use Rattle.plane_reader.proofs.read_verbatim.Statement.{statement}
 use Rattle.plane_reader.proofs.read_verbatim.Tie as tie
 
 abbrev Inv-loop : tie.InvT-loop
-Inv-loop buf at end words₀ k n m i₀ words i =
-    (i ≤ m) × (length words ≡ length words₀) × (words ≡ addAt 0 k (take i (slice at end (bitsOf buf))) words₀)
+Inv-loop buf end words₀ k n next₀ i₀ words next i = (i ≤ n) × (length words ≡ length words₀) × Begun words₀ words k i (bitsOf buf) (place next₀) end next
 
 abbrev μ-loop : tie.MeasureT-loop
-μ-loop buf at end words₀ k n m i₀ words i = m - i
+μ-loop buf end words₀ k n next₀ i₀ words next i = n - i
 
-returns : tie.Need-returns Inv-loop μ-loop
-returns c =
-    let s = c .before .before .before in
-    let e : s .args .n ≡ 0 = omega arith in
-    rw e (sym (add-none 0 (s .args .k) (s .args .words .now)), refl, s .pre .3)
+loop-holds : tie.Need-loop-holds Inv-loop μ-loop
+loop-holds c =
+    let s = c .before .before in
+    (search needs, refl, begun-none (s .args .words .now) (s .args .k) (s .pre .3))
+
+refill-requires : tie.Need-refill-requires Inv-loop μ-loop
+refill-requires c κs =
+    let l = c .before .loop in
+    (l .inv .2 .holds, search needs, search needs)
+
+cast-have : tie.Need-cast-have Inv-loop μ-loop
+cast-have c = search needs
 
 sub-least : tie.Need-sub-least Inv-loop μ-loop
 sub-least c = search needs
@@ -31,69 +37,59 @@ sub-least c = search needs
 least-requires : tie.Need-least-requires Inv-loop μ-loop
 least-requires c κs = search needs
 
-loop-holds : tie.Need-loop-holds Inv-loop μ-loop
-loop-holds c =
-    let a = c .before .before .before .before .args in
-    (search needs, refl, sym (add-none 0 (a .k) (a .words .now)))
+same-length : tie.Need-same-length Inv-loop μ-loop
+same-length c = search needs
 
-add-piece : tie.Need-add-piece Inv-loop μ-loop
-add-piece c = search needs
+returns : tie.Need-returns Inv-loop μ-loop
+returns c =
+    let l = c .before .before .before .before .before .loop in
+    let a = c .before .before .before .before .before .before .before .before .args in
+    begun-cut (l .inv .2) (within-bits (a .buf .now) (omega arith)) (c .before .before .before .refill .ensures) (a .n) (omega arith) (omega arith)
 
-sub-piece : tie.Need-sub-piece Inv-loop μ-loop
-sub-piece c = search needs
+add-bits-requires : tie.Need-add-bits-requires Inv-loop μ-loop
+add-bits-requires c κs =
+    let l = c .before .before .before .before .before .before .loop in
+    let s = c .before .before .before .before .before .before .before .before .before in
+    let room = begun-room (l .inv .2) (within-bits (s .args .buf .now) (s .pre .2)) (omega arith) (s .pre .5) in
+    (search needs, search needs, omega (arith, c .before .before .before .before .refill .ensures .holds .few), room)
 
-piece-requires : tie.Need-piece-requires Inv-loop μ-loop
-piece-requires c κs = search needs
+cast-taken : tie.Need-cast-taken Inv-loop μ-loop
+cast-taken c = omega (arith, c .before .before .before .before .before .before .before .refill .ensures .holds .few)
 
-add-read-bits : tie.Need-add-read-bits Inv-loop μ-loop
-add-read-bits c = search needs
-
-read-bits-requires : tie.Need-read-bits-requires Inv-loop μ-loop
-read-bits-requires c κs =
-    let l = c .before .before .before .loop in
-    let s = c .before .before .before .before .before .before .before .before in
-    let a = s .args in (
-      search needs,
-      search needs,
-      search needs,
-      search needs,
-      rw (l .inv .2) (room-past 64 _ (a .k) (l .i) (slice (a .at) (a .end) (bitsOf (a .buf .now))) (a .words .now) (s .pre .4)),
-    )
+taken-requires : tie.Need-taken-requires Inv-loop μ-loop
+taken-requires c κs = omega (arith, c .before .before .before .before .before .before .before .refill .ensures .holds .few)
 
 add-i : tie.Need-add-i Inv-loop μ-loop
 add-i c = search needs
 
 loop-less : tie.Need-loop-less Inv-loop μ-loop
-loop-less c = search needs
+loop-less c =
+    let l = c .before .before .before .before .before .before .before .before .before .before .loop in
+    let a = c .before .before .before .before .before .before .before .before .before .before .before .before .before .args in
+    least-less (a .n) (l .i) (c .before .before .before .before .before .before .before .before .before .loop-test .taken) (c .before .before .before .before .before .if1 .left)
 
 loop-again : tie.Need-loop-again Inv-loop μ-loop
 loop-again c =
-    let call = c .before .before in
-    let part = call .before .before in
-    let l = part .before .before .loop in
-    let a = part .before .before .before .before .before .before .before .args in (
-      search needs,
-      call .read-bits .kept .1 .1 .1 .0 ∙ l .inv .1,
-      verbatim-more (a .k) (a .at) (a .end) (l .i) (part .piece .result) (bitsOf (a .buf .now)) (a .words .now)
-          (omega arith) (omega (arith, length-bitsOf (a .buf .now))) (omega arith) (l .inv .2) (call .read-bits .ensures),
+    let l = c .before .before .before .before .before .before .before .before .before .before .loop in
+    let s = c .before .before .before .before .before .before .before .before .before .before .before .before .before in
+    let a = s .args in
+    let call = c .before .before .before in
+    let have = c .before .before .before .before .before .before .before .before .refill .result .count in
+    let fits = least-fits (a .n) (l .i) have (c .before .before .before .before .before .before .least .ensures) (c .before .before .before .before .before .before .before .before .before .loop-test .taken) in (
+      fits .0,
+      call .add-bits .kept .0 ∙ l .inv .1,
+      begun-more (l .inv .2) (within-bits (a .buf .now) (s .pre .2)) (c .before .before .before .before .before .before .before .before .refill .ensures) _ (le-trans (fits .0) (s .pre .1)) (fits .1)
+          (call .add-bits .ensures) (c .taken .ensures),
     )
 
-add-result : tie.Need-add-result Inv-loop μ-loop
-add-result c = search needs
-
-same-length : tie.Need-same-length Inv-loop μ-loop
-same-length c = search needs
+same-length-2 : tie.Need-same-length-2 Inv-loop μ-loop
+same-length-2 c = search needs
 
 returns-2 : tie.Need-returns-2 Inv-loop μ-loop
 returns-2 c =
     let l = c .before .loop in
-    let m = c .before .before in
-    let a = m .before .before .before .before .args in
-    let d = bitsOf (a .buf .now) in
-    let long = length-slice (a .at) (a .end) d (omega (arith, length-bitsOf (a .buf .now))) in
-    let first = rw (long, ← (m .least .ensures)) at (first-least (a .n) (slice (a .at) (a .end) d)) in
-    let e : l .i ≡ m .least .result = omega arith in
-    (l .inv .2 ∙ rw (e, first .0), slice-rest d (a .at) (m .least .result) (a .end) ∙ first .1, omega arith)
+    let a = c .before .before .before .before .args in
+    begun-all (l .inv .2) (within-bits (a .buf .now) (omega arith)) (a .n) (omega arith)
 
 pub read-verbatim-spec : {M : Type 1} → statement M
 read-verbatim-spec =
@@ -101,18 +97,18 @@ read-verbatim-spec =
     (tie.spec
     Inv-loop
     μ-loop
-    returns
+    loop-holds
+    refill-requires
+    cast-have
     sub-least
     least-requires
-    loop-holds
-    add-piece
-    sub-piece
-    piece-requires
-    add-read-bits
-    read-bits-requires
+    same-length
+    returns
+    add-bits-requires
+    cast-taken
+    taken-requires
     add-i
     loop-less
     loop-again
-    add-result
-    same-length
+    same-length-2
     returns-2)

@@ -1,9 +1,7 @@
 -- The invariant: the bits that are left, added from here, give what all of them give from place i. Assumes nothing.
-use Rattle.plane_reader.proofs.Reading.{add-none, add-cons, room-here, room-set}
+use Rattle.plane_reader.proofs.Adding.{add-none, add-cons, add-zeros, room-here, room-set}
 use Rattle.planes.specs.Calls.{addAt, Room}
-use Rattle.bits.specs.Stream.{numberBits, bitsOf}
-use Rattle.bits.proofs.StreamLaws.{byte-bits}
-use lib.Seq.{slice}
+use Rattle.bits.specs.Stream.{numberBits}
 use lib.ListN.{length, drop}
 use lib.Pow.{shr-shr}
 use native.Mathlib.Omega.{arith}
@@ -11,34 +9,33 @@ use native.Mathlib.Nat.{div-one}
 use Prim.Native.Nat.{suc, _≤_, _<_, _-_, _+_, _/_, _^_}
 use mathlib.Core.Path.{_≡_, refl, sym, _∙_}
 use borrow.Author.Needs.{needs}
-use Rattle.plane_reader.proofs.read_bits.Statement.{statement}
-use Rattle.plane_reader.proofs.read_bits.Tie as tie
+use Rattle.plane_reader.proofs.add_bits.Statement.{statement}
+use Rattle.plane_reader.proofs.add_bits.Tie as tie
 
 abbrev Inv-loop : tie.InvT-loop
-Inv-loop buf at count words₀ k i v j₀ words j =
+Inv-loop words₀ k i count x j₀ words j =
     (j ≤ count) × (length words ≡ length words₀) × Room 64 (suc k) (drop (i + j) words)
-    × (addAt (i + j) k (numberBits (count - j) (v / 2 ^ j)) words ≡ addAt i k (slice at (at + count) (bitsOf buf)) words₀)
+    × (addAt (i + j) k (numberBits (count - j) (x / 2 ^ j)) words ≡ addAt i k (numberBits count x) words₀)
 
 abbrev μ-loop : tie.MeasureT-loop
-μ-loop buf at count words₀ k i v j₀ words j = count - j
+μ-loop words₀ k i count x j₀ words j = count - j
 
-byte-from-requires : tie.Need-byte-from-requires Inv-loop μ-loop
-byte-from-requires c κs = search needs
+returns : tie.Need-returns Inv-loop μ-loop
+returns c =
+    let s = c .before .before in
+    let a = s .args in
+    rw (c .if1 .taken) (sym (add-zeros (a .i) (a .k) (a .count) (a .words .now) (s .pre .1)))
 
 loop-holds : tie.Need-loop-holds Inv-loop μ-loop
 loop-holds c =
-    let s = c .before .before .before in
+    let s = c .before .before in
     let a = s .args in
     let here : a .i + 0 ≡ a .i = omega arith in
     let all : a .count - 0 ≡ a .count = omega arith in
-    let same = byte-bits (a .buf .now) (a .at) (a .count) (s .pre .3) (s .pre .2) in
-    (search needs, refl, rw here (s .pre .4), rw (here, all, div-one, c .byte-from .ensures, same))
+    (search needs, refl, rw here (s .pre .3), rw (here, all, div-one))
 
 add-add-bit : tie.Need-add-add-bit Inv-loop μ-loop
 add-add-bit c = search needs
-
-cast-add-bit : tie.Need-cast-add-bit Inv-loop μ-loop
-cast-add-bit c = search needs
 
 shr-add-bit : tie.Need-shr-add-bit Inv-loop μ-loop
 shr-add-bit c = search needs
@@ -58,8 +55,7 @@ loop-again : tie.Need-loop-again Inv-loop μ-loop
 loop-again c =
     let call = c .before .before in
     let l = call .before .before .before .loop in
-    let a = call .before .before .before .before .before .before .before .args in
-    let v = call .before .before .before .before .byte-from .result in
+    let a = call .before .before .before .before .before .before .args in
     let place = a .i + l .j in
     let few : place < length (l .words) = omega arith in
     let e : a .count - l .j ≡ suc (a .count - (l .j + 1)) = omega arith in
@@ -67,33 +63,32 @@ loop-again c =
       search needs,
       call .add-bit .kept .0 ∙ l .inv .1,
       rw (next, call .add-bit .ensures) (room-set 64 (a .k) place _ (l .words) few (l .inv .2)),
-      rw (next, call .add-bit .ensures, ← (shr-shr v (l .j) 1)) (sym (add-cons place (a .k) _ _ (l .words) few) ∙ (rw e at (l .inv .3))),
+      rw (next, call .add-bit .ensures, ← (shr-shr (a .x) (l .j) 1)) (sym (add-cons place (a .k) _ _ (l .words) few) ∙ (rw e at (l .inv .3))),
     )
 
 same-length : tie.Need-same-length Inv-loop μ-loop
 same-length c = search needs
 
-returns : tie.Need-returns Inv-loop μ-loop
-returns c =
+returns-2 : tie.Need-returns-2 Inv-loop μ-loop
+returns-2 c =
     let l = c .before .loop in
-    let a = c .before .before .before .before .before .args in
+    let a = c .before .before .before .before .args in
     let e : a .count - l .j ≡ 0 = omega arith in
     sym (add-none (a .i + l .j) (a .k) (l .words)) ∙ (rw e at (l .inv .3))
 
-pub read-bits-spec : {M : Type 1} → statement M
-read-bits-spec =
+pub add-bits-spec : {M : Type 1} → statement M
+add-bits-spec =
     tie.close
     (tie.spec
     Inv-loop
     μ-loop
-    byte-from-requires
+    returns
     loop-holds
     add-add-bit
-    cast-add-bit
     shr-add-bit
     add-bit-requires
     add-j
     loop-less
     loop-again
     same-length
-    returns)
+    returns-2)
