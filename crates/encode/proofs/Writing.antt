@@ -3,15 +3,19 @@ use mathlib.Core.Path.{_≡_, refl, sym}
 use mathlib.Core.Bool.{Bool, true, false, cond}
 use mathlib.Core.List.{List, [], _∷_, map, append-nil}
 use Prim.Native.Nat.{ℕ, suc, _+_, _-_, _*_, _/_, _%_, _≤_}
+use native.Mathlib.Nat.{le-trans, mul-le-mul-left, mul-le-mul-right}
 use native.Mathlib.Numerals.{add-one}
 use native.Mathlib.Omega.{arith}
 use borrow.Author.Tests.{ne-eqb}
 use lib.Dec.{eqb}
 use lib.Ieee.{Format}
+use lib.ListN.{length}
 use Rattle.bits.specs.declared.Cursor.{Cursor}
 use Rattle.bits.specs.Stream.{numberBits}
 use Rattle.bits.specs.Calls.{Written}
+use Rattle.bits.proofs.NumberLaws.{length-numberBits}
 use Rattle.bits.proofs.WriteLaws.{written-append}
+use Rattle.bits.proofs.ReachLaws.{reached-all, reached-append}
 use Rattle.words.specs.Word.{flip}
 use Rattle.floats.specs.Pattern.{wordSize, fieldBits}
 use Rattle.floats.specs.Integer.{toInteger}
@@ -20,6 +24,9 @@ use Rattle.codec.specs.Code.{exactIntegers, exactFloats}
 use Rattle.codec.specs.Depth.{wholeIntegers, wholeWritten}
 use Rattle.codec.specs.Lowest.{planesAt, planesCoded}
 use Rattle.codec.specs.Calls.{integersCode, uncutFloats, uncutCode, uncutTo, wholeAt, Formed}
+use Rattle.encode.specs.Calls.{BlockCoded}
+use Rattle.planes.specs.Coder.{planesCode, mostBits}
+use Rattle.planes.proofs.Bound.{bound}
 use Rattle.codec.proofs.Depth.{written-most}
 use Rattle.codec.proofs.Lowest.{planes-at-most}
 
@@ -112,14 +119,32 @@ module _ (f : Format) (d p lowest : ℕ) (ws : List ℕ) where
   exact-raw e own h whole made =
       record { code = rw (h, ← own, whole, made); whole = λ width. rw (h, ← own, whole, made); few = omega arith; short = omega arith }
 
+-- a code written whole, by either mode
+pub coded-whole : {before after : List ℕ} {out next : Cursor} {limit budget : ℕ} {exact : Bool} {code : List Bool} → Written before after out limit code next
+    → BlockCoded before after out limit budget exact code next
+coded-whole w = record { reached = reached-all w; whole = λ e. w }
+
 -- the form's bits, and what follows them, and how many planes are whole
 module _ {f : Format} {float exact planes : Bool} {d p lowest k : ℕ} {ws ws′ : List ℕ} {head bits : ℕ} {before mid : List ℕ} {limit : ℕ} {out out₁ : Cursor}
     (width : ℕ) (form : Formed f float exact d p lowest ws ws′ head bits planes k) where
-  pub with-planes : {after : List ℕ} {out₂ : Cursor} {whole : ℕ} → planes ≡ true → Written before mid out limit (numberBits bits head) out₁
-      → Written mid after out₁ limit (integersCode f exact d k ws′) out₂ × (whole ≡ wholeIntegers f exact d k (width - bits) ws′)
-      → Written before after out limit (uncutTo f float exact d p lowest ws) out₂ × (whole ≡ wholeAt f float exact d p lowest width ws)
-  with-planes e r₁ r₂ = (rw (form .code, e) (written-append r₁ (r₂ .0)), rw (form .whole width, e) (r₂ .1))
+  pub with-planes : {after : List ℕ} {out₂ : Cursor} {whole : ℕ} → bits ≤ width → planes ≡ true → Written before mid out limit (numberBits bits head) out₁
+      → BlockCoded mid after out₁ limit (width - bits) exact (integersCode f exact d k ws′) out₂ × (whole ≡ wholeIntegers f exact d k (width - bits) ws′)
+      → BlockCoded before after out limit width exact (uncutTo f float exact d p lowest ws) out₂ × (whole ≡ wholeAt f float exact d p lowest width ws)
+  with-planes h e r₁ r₂ =
+      let all : length (numberBits bits head) + (width - bits) ≡ width = omega (arith, length-numberBits bits head) in (
+        record {
+          reached = rw (form .code, e) (rw all at (reached-append r₁ (r₂ .0 .reached)));
+          whole = λ x. rw (form .code, e) (written-append r₁ (r₂ .0 .whole x));
+        },
+        rw (form .whole width, e) (r₂ .1),
+      )
 
   pub without-planes : planes ≡ false → Written before mid out limit (numberBits bits head) out₁
-      → Written before mid out limit (uncutTo f float exact d p lowest ws) out₁ × (0 ≡ wholeAt f float exact d p lowest width ws)
-  without-planes e r₁ = (rw (form .code, e, append-nil (numberBits bits head)) r₁, rw (form .whole width, e))
+      → BlockCoded before mid out limit width exact (uncutTo f float exact d p lowest ws) out₁ × (0 ≡ wholeAt f float exact d p lowest width ws)
+  without-planes e r₁ = (rw (form .code, e, append-nil (numberBits bits head)) (coded-whole r₁), rw (form .whole width, e))
+
+-- no code of planes comes near 2 ^ 20 bits
+pub short : (w p : ℕ) (us : List ℕ) → 1 ≤ length us → length us ≤ 256 → p ≤ 64 → length (planesCode w p us) ≤ 1048576
+short w p us h k l =
+    let most : length us * p ≤ 256 * 64 = le-trans (mul-le-mul-left (length us) l) (mul-le-mul-right 64 k) in
+    omega (arith, bound w p us h)

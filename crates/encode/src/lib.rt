@@ -1,16 +1,18 @@
-// The code of a block, written below a limit; the cursor moves by the uncut length. The planes that are whole are counted against the budget, which is
-// the width less the head, and not against the room below the limit.
+// The code of a block, written below a limit. The planes that are whole are counted against the budget, which is the width less the head, and not
+// against the room below the limit; a lossy code is not written on past its budget.
 ghost use mathlib.Core.Path.{_≡_};
 ghost use mathlib.Core.Bool.{true, false};
-ghost use Prim.Native.Nat.{ℕ, _*_, _^_, _≤_, _<_};
+ghost use Prim.Native.Nat.{ℕ, _+_, _*_, _^_, _≤_, _<_};
 ghost use lib.ListN.{length};
 ghost use Rattle.bits.specs.Calls.{Written};
 ghost use Rattle.words.specs.Calls.{Size};
 ghost use Rattle.floats.specs.Calls.{formatOf};
 ghost use Rattle.float_blocks.specs.Block.{anySpecial};
+ghost use Rattle.plane_writer.specs.Calls.{OnesFrom};
 ghost use Rattle.codec.specs.Head.{planesNeeded, exactPlanes};
 ghost use Rattle.codec.specs.Depth.{wholeOf, wholeIntegers};
 ghost use Rattle.codec.specs.Calls.{Shape, coefficientsCode, integersCode, uncutTo, wholeAt, Formed};
+ghost use Rattle.encode.specs.Calls.{BlockCoded};
 use bits::Cursor;
 use codec::change::Change;
 use codec::change::change_all;
@@ -20,16 +22,26 @@ use codec::head::planes_at;
 use codec::head::planes_needed;
 use plane_writer::Coded;
 
+// A budget that no exact code reaches.
+const NO_BUDGET: usize = 1 << 20;
+
 // The bits of p - 1, then p planes.
-fn put_exact_planes(size: u32, us: &[u64], buf: &mut [u8], out: Cursor, limit: usize) -> Coded
-    requires { ⌜ Size size × (length (now us) ≤ 256) × (limit ≤ 8 * length (now buf)) × (out .at < 2 ^ 30)
-        × (out .writes ≤ out .at) ⌝ }
+fn put_exact_planes(
+    size: u32,
+    us: &[u64],
+    ors: &[u64],
+    buf: &mut [u8],
+    out: Cursor,
+    limit: usize,
+) -> Coded
+    requires { ⌜ Size size × OnesFrom (now ors) (now us) × (1 ≤ length (now us)) × (length (now us) ≤ 256) × (limit ≤ 8 * length (now buf))
+        × (out .at < 2 ^ 30) × (out .writes ≤ out .at) × (limit ≤ 2 ^ 20) ⌝ }
     ensures { λ r. ⌜ Written (now (buf .entry)) (now (buf .exit)) out limit
         (exactPlanes (formatOf size) (now (us .entry))) (r .out) × (r .whole ≡ planesNeeded size (now (us .entry))) ⌝ }
 {
     let p = planes_needed(size, us);
     let next = bits::put_number(buf, out, limit, p - 1, count_bits(size));
-    let c = plane_writer::put_planes(size, us, p, buf, next, limit, 0);
+    let c = plane_writer::put_planes(size, us, ors, p, buf, next, limit, NO_BUDGET);
     let end = c.out;
     // Nothing is cut, so all p planes are whole, whatever the coder counts within a budget.
     Coded { out: end, whole: p }
@@ -41,21 +53,22 @@ fn put_coefficients(
     exact: bool,
     p: u32,
     us: &[u64],
+    ors: &[u64],
     buf: &mut [u8],
     out: Cursor,
     limit: usize,
     budget: usize,
 ) -> Coded
-    requires { ⌜ Size size × (p ≤ size) × (length (now us) ≤ 256) × (limit ≤ 8 * length (now buf)) × (out .at < 2 ^ 30)
-        × (out .writes ≤ out .at) ⌝ }
-    ensures { λ r. ⌜ Written (now (buf .entry)) (now (buf .exit)) out limit
+    requires { ⌜ Size size × (p ≤ size) × OnesFrom (now ors) (now us) × (1 ≤ length (now us)) × (length (now us) ≤ 256) × (limit ≤ 8 * length (now buf))
+        × (out .at < 2 ^ 30) × (out .writes ≤ out .at) × (limit ≤ 2 ^ 20) × (exact ≡ false → limit ≤ out .at + budget) ⌝ }
+    ensures { λ r. ⌜ BlockCoded (now (buf .entry)) (now (buf .exit)) out limit budget exact
         (coefficientsCode (formatOf size) exact p (now (us .entry))) (r .out)
         × (r .whole ≡ wholeOf (formatOf size) exact p budget (now (us .entry))) ⌝ }
 {
     if exact {
-        put_exact_planes(size, us, buf, out, limit)
+        put_exact_planes(size, us, ors, buf, out, limit)
     } else {
-        plane_writer::put_planes(size, us, p, buf, out, limit, budget)
+        plane_writer::put_planes(size, us, ors, p, buf, out, limit, budget)
     }
 }
 
@@ -73,13 +86,14 @@ fn put_integers(
     budget: usize,
 ) -> Coded
     requires { ⌜ Shape size d p (length (now words)) × (length (now cs) ≡ 4 ^ d) × (limit ≤ 8 * length (now buf)) × (out .at < 2 ^ 30)
-        × (out .writes ≤ out .at) ⌝ }
-    ensures { λ r. ⌜ Written (now (buf .entry)) (now (buf .exit)) out limit
+        × (out .writes ≤ out .at) × (limit ≤ 2 ^ 20) × (exact ≡ false → limit ≤ out .at + budget) ⌝ }
+    ensures { λ r. ⌜ BlockCoded (now (buf .entry)) (now (buf .exit)) out limit budget exact
         (integersCode (formatOf size) exact d p (now (words .entry))) (r .out)
         × (r .whole ≡ wholeIntegers (formatOf size) exact d p budget (now (words .entry))) ⌝ }
 {
     blocks::coefficients(size, exact, d, words, cs);
-    put_coefficients(size, exact, p, cs, buf, out, limit, budget)
+    plane_writer::ones_from(cs, words);
+    put_coefficients(size, exact, p, cs, words, buf, out, limit, budget)
 }
 
 // What stands in front of a block's planes, as a number of so many bits, whether planes follow, and how many in lossy mode.
@@ -204,8 +218,9 @@ pub fn put_block(
 ) -> Coded
     requires { ⌜ Shape size d p (length (now words)) × (length (now cs) ≡ 4 ^ d)
         × (float ≡ true → exact ≡ false → anySpecial (formatOf size) (now words) ≡ false)
-        × (limit ≤ 8 * length (now buf)) × (out .at < 2 ^ 28) × (out .writes ≤ out .at) × (13 ≤ width) ⌝ }
-    ensures { λ r. ⌜ Written (now (buf .entry)) (now (buf .exit)) out limit
+        × (limit ≤ 8 * length (now buf)) × (out .at < 2 ^ 28) × (out .writes ≤ out .at) × (13 ≤ width) × (limit ≤ 2 ^ 20)
+        × (exact ≡ false → limit ≤ out .at + width) ⌝ }
+    ensures { λ r. ⌜ BlockCoded (now (buf .entry)) (now (buf .exit)) out limit width exact
         (uncutTo (formatOf size) float exact d p lowest (now (words .entry))) (r .out)
         × (r .whole ≡ wholeAt (formatOf size) float exact d p lowest width (now (words .entry))) ⌝ }
 {

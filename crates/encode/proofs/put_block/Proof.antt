@@ -30,6 +30,8 @@ put-integers-requires c κs =
       search needs,
       omega (arith, w .moved, bits, made .form-of .ensures .short),
       omega (arith, w .moved, w .few),
+      s .pre .7,
+      (λ e. omega (arith, s .pre .8 e, w .moved, bits, made .form-of .ensures .short, s .pre .6)),
     )
 
 same-length : tie.Need-same-length
@@ -48,7 +50,7 @@ returns c =
     let number = branch .before .before .before in
     let made = number .before .before .before .before in
     let a = made .before .before .before .before .before .args in
-    with-planes (a .width) (made .form-of .ensures) (branch .if1 .taken) (number .put-number .ensures) (put .put-integers .ensures)
+    with-planes (a .width) (made .form-of .ensures) (omega (arith, made .form-of .ensures .short, made .before .before .before .before .before .pre .6)) (branch .if1 .taken) (number .put-number .ensures) (put .put-integers .ensures)
 
 same-length-4 : tie.Need-same-length-4
 same-length-4 c = search needs

@@ -1,5 +1,4 @@
 -- The coefficients, then their code. Assumes nothing.
-use Prim.Native.Nat.{_^_, _≤_}
 use native.Mathlib.Omega.{arith}
 use Rattle.params.proofs.RowLaws.{power-within}
 use Rattle.codec.proofs.Sizes.{integers-of}
@@ -10,12 +9,27 @@ use Rattle.encode.proofs.put_integers.Tie as tie
 coefficients-requires : tie.Need-coefficients-requires
 coefficients-requires c κs = search needs
 
+ones-from-requires : tie.Need-ones-from-requires
+ones-from-requires c κs = search needs
+
 put-coefficients-requires : tie.Need-put-coefficients-requires
 put-coefficients-requires c κs =
-    let s = c .before .before .before .before .before .before .before .before .before .before .before .before in
+    let m = c .before .before .before .before .before .before .before .before .before .before .before .before in
+    let s = m .before .before .before .before .before .before in
     let good = s .pre .0 .dimension in
-    let few : 4 ^ s .args .d ≤ 256 = power-within (s .args .d) (good .0) (good .1) .1 in
-    (s .pre .0 .sized, s .pre .0 .planes, omega (arith, few, s .pre .1), s .pre .2, s .pre .3, s .pre .4)
+    let within = power-within (s .args .d) (good .0) (good .1) in
+    let same = m .coefficients .kept .1 .1 .1 .1 .0 in (
+      s .pre .0 .sized,
+      s .pre .0 .planes,
+      c .before .before .before .before .before .ones-from .ensures,
+      omega (arith, within, s .pre .1, same),
+      omega (arith, within, s .pre .1, same),
+      s .pre .2,
+      s .pre .3,
+      s .pre .4,
+      s .pre .5,
+      s .pre .6,
+    )
 
 same-length : tie.Need-same-length
 same-length c = search needs
@@ -29,7 +43,7 @@ same-length-3 c = search needs
 returns : tie.Need-returns
 returns c =
     let put = c .before .before in
-    let m = put .before .before .before .before .before .before .before in
+    let m = put .before .before .before .before .before .before .before .before .before .before .before .before .before in
     let s = m .before .before .before .before .before .before in
     let a = s .args in
     let r = put .put-coefficients .ensures in
@@ -41,6 +55,7 @@ put-integers-spec =
     tie.close
     (tie.spec
     coefficients-requires
+    ones-from-requires
     put-coefficients-requires
     same-length
     same-length-2
