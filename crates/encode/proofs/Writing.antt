@@ -143,8 +143,8 @@ module _ {f : Format} {float exact planes : Bool} {d p lowest k : ℕ} {ws ws′
       → BlockCoded before mid out limit width exact (uncutTo f float exact d p lowest ws) out₁ × (0 ≡ wholeAt f float exact d p lowest width ws)
   without-planes e r₁ = (rw (form .code, e, append-nil (numberBits bits head)) (coded-whole r₁), rw (form .whole width, e))
 
--- no code of planes comes near 2 ^ 20 bits
-pub short : (w p : ℕ) (us : List ℕ) → 1 ≤ length us → length us ≤ 256 → p ≤ 64 → length (planesCode w p us) ≤ 1048576
+-- no code of planes comes near 2 ^ 21 bits
+pub short : (w p : ℕ) (us : List ℕ) → 1 ≤ length us → length us ≤ 256 → p ≤ 64 → length (planesCode w p us) ≤ 2097152
 short w p us h k l =
     let most : length us * p ≤ 256 * 64 = le-trans (mul-le-mul-left (length us) l) (mul-le-mul-right 64 k) in
     omega (arith, bound w p us h)

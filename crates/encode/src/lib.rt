@@ -23,7 +23,7 @@ use codec::head::planes_needed;
 use plane_writer::Coded;
 
 // A budget that no exact code reaches.
-const NO_BUDGET: usize = 1 << 20;
+const NO_BUDGET: usize = 1 << 21;
 
 // The bits of p - 1, then p planes.
 fn put_exact_planes(
@@ -35,7 +35,7 @@ fn put_exact_planes(
     limit: usize,
 ) -> Coded
     requires { ⌜ Size size × OnesFrom (now ors) (now us) × (1 ≤ length (now us)) × (length (now us) ≤ 256) × (limit ≤ 8 * length (now buf))
-        × (out .at < 2 ^ 30) × (out .writes ≤ out .at) × (limit ≤ 2 ^ 20) ⌝ }
+        × (out .at < 2 ^ 30) × (out .writes ≤ out .at) × (limit ≤ 2 ^ 21) ⌝ }
     ensures { λ r. ⌜ Written (now (buf .entry)) (now (buf .exit)) out limit
         (exactPlanes (formatOf size) (now (us .entry))) (r .out) × (r .whole ≡ planesNeeded size (now (us .entry))) ⌝ }
 {
@@ -60,7 +60,7 @@ fn put_coefficients(
     budget: usize,
 ) -> Coded
     requires { ⌜ Size size × (p ≤ size) × OnesFrom (now ors) (now us) × (1 ≤ length (now us)) × (length (now us) ≤ 256) × (limit ≤ 8 * length (now buf))
-        × (out .at < 2 ^ 30) × (out .writes ≤ out .at) × (limit ≤ 2 ^ 20) × (exact ≡ false → limit ≤ out .at + budget) ⌝ }
+        × (out .at < 2 ^ 30) × (out .writes ≤ out .at) × (limit ≤ 2 ^ 21) × (exact ≡ false → limit ≤ out .at + budget) ⌝ }
     ensures { λ r. ⌜ BlockCoded (now (buf .entry)) (now (buf .exit)) out limit budget exact
         (coefficientsCode (formatOf size) exact p (now (us .entry))) (r .out)
         × (r .whole ≡ wholeOf (formatOf size) exact p budget (now (us .entry))) ⌝ }
@@ -86,7 +86,7 @@ fn put_integers(
     budget: usize,
 ) -> Coded
     requires { ⌜ Shape size d p (length (now words)) × (length (now cs) ≡ 4 ^ d) × (limit ≤ 8 * length (now buf)) × (out .at < 2 ^ 30)
-        × (out .writes ≤ out .at) × (limit ≤ 2 ^ 20) × (exact ≡ false → limit ≤ out .at + budget) ⌝ }
+        × (out .writes ≤ out .at) × (limit ≤ 2 ^ 21) × (exact ≡ false → limit ≤ out .at + budget) ⌝ }
     ensures { λ r. ⌜ BlockCoded (now (buf .entry)) (now (buf .exit)) out limit budget exact
         (integersCode (formatOf size) exact d p (now (words .entry))) (r .out)
         × (r .whole ≡ wholeIntegers (formatOf size) exact d p budget (now (words .entry))) ⌝ }
@@ -218,7 +218,7 @@ pub fn put_block(
 ) -> Coded
     requires { ⌜ Shape size d p (length (now words)) × (length (now cs) ≡ 4 ^ d)
         × (float ≡ true → exact ≡ false → anySpecial (formatOf size) (now words) ≡ false)
-        × (limit ≤ 8 * length (now buf)) × (out .at < 2 ^ 28) × (out .writes ≤ out .at) × (13 ≤ width) × (limit ≤ 2 ^ 20)
+        × (limit ≤ 8 * length (now buf)) × (out .at < 2 ^ 28) × (out .writes ≤ out .at) × (13 ≤ width) × (limit ≤ 2 ^ 21)
         × (exact ≡ false → limit ≤ out .at + width) ⌝ }
     ensures { λ r. ⌜ BlockCoded (now (buf .entry)) (now (buf .exit)) out limit width exact
         (uncutTo (formatOf size) float exact d p lowest (now (words .entry))) (r .out)

@@ -31,6 +31,3 @@ pub const WIDEST: u32 = 8462;
 pub const WIDEST_BITS: usize = WIDEST as usize;
 
 pub const WIDEST_BYTES: usize = (WIDEST_BITS + 7) / 8;
-
-// The bytes that every exact code of few words fits: 33N + 14 bits.
-pub const FEW_BYTES: usize = (33 * FEW_WORDS + 14 + 7) / 8;
