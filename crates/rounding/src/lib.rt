@@ -15,13 +15,8 @@ fn half_even(a: u64, b: u64) -> u64
 {
     let q = a / b;
     let r = a % b;
-    if r * 2 < b {
-        return q;
-    }
-    if r * 2 == b {
-        return q + q % 2;
-    }
-    q + 1
+    // One test and no jump: past a half, or at a half and q odd.
+    if b < r * 2 + q % 2 { q + 1 } else { q }
 }
 
 // The digits of a number of l digits, held to the precision: g times 2^(precision - l), rounded once.
