@@ -1,8 +1,9 @@
--- `closest`, by the three tests of the code.
+-- `closest`, by three tests, and by the one of the code.
 use mathlib.Core.Path.{_≡_, refl, sym, ap, _∙_, subst}
 use Prim.Native.Nat.{ℕ, _+_, _-_, _*_, _/_, _%_, _^_, _≤_, _<_, compare, Ordering, Ordering·lt, Ordering·eq, Ordering·gt}
 use native.Mathlib.Numerals.{add-one}
-use native.Mathlib.Nat.{le-trans, le-div-iff-mul-le, mul-le-mul-left, div-mul-le-self, mul-one}
+use native.Mathlib.Nat.{le-trans, mod-lt, le-div-iff-mul-le, mul-le-mul-left, div-mul-le-self, mul-one}
+use native.Mathlib.Decide.{decLe}
 use native.Mathlib.Omega.{arith}
 use mathlib.Core.Bool.{not}
 use lib.Dec.{T, isLe, isEq, eqb, leb→le, nleb→lt, eqb→eq, eqb-refl}
@@ -49,14 +50,38 @@ is-gt a b h = go (compare a b) (cmp a b)
     go Ordering·gt c = refl
 
 module _ (a b : ℕ) where
-  pub down : a % b * 2 < b → a / b ≡ closest a b
+  down : a % b * 2 < b → a / b ≡ closest a b
   down h = rw (is-lt (a % b * 2) b h)
 
-  pub tie-even : a % b * 2 ≡ b → a / b + a / b % 2 ≡ closest a b
+  tie-even : a % b * 2 ≡ b → a / b + a / b % 2 ≡ closest a b
   tie-even h = rw (is-eq (a % b * 2) b h)
 
-  pub up : b < a % b * 2 → a / b + 1 ≡ closest a b
+  up : b < a % b * 2 → a / b + 1 ≡ closest a b
   up h = rw (is-gt (a % b * 2) b h) (add-one (a / b))
+
+  -- in one test
+  even : a / b % 2 < 2
+  even = mod-lt (a / b) (omega arith)
+
+  pub rounds-up : b < a % b * 2 + a / b % 2 → a / b + 1 ≡ closest a b
+  rounds-up h =
+      elim (decLe (a % b * 2) b) [
+        | yes y ↦
+            let t : a % b * 2 ≡ b = omega (arith, even) in
+            let o : a / b + 1 ≡ a / b + a / b % 2 = omega (arith, even) in
+            o ∙ tie-even t
+        | no n ↦ up (omega arith)
+      ]
+
+  pub rounds-down : a % b * 2 + a / b % 2 ≤ b → a / b ≡ closest a b
+  rounds-down h =
+      elim (decLe b (a % b * 2)) [
+        | yes y ↦
+            let t : a % b * 2 ≡ b = omega arith in
+            let o : a / b ≡ a / b + a / b % 2 = omega arith in
+            o ∙ tie-even t
+        | no n ↦ down (omega arith)
+      ]
 
 -- a quotient by 2 or more
 pub at-most-half : (a b : ℕ) → 2 ≤ b → a / b ≤ a / 2

@@ -1,19 +1,20 @@
 -- The sign bit of a rounded value, which is added to the pattern of its magnitude.
-use mathlib.Core.Path.{_≡_, sym, ap, _∙_, subst}
-use mathlib.Core.Bool.{Bool, true, false, not}
-use Prim.Native.Nat.{ℕ, zero, suc, _+_, _-_, _*_, _^_, _≤_, _<_, min}
-use native.Mathlib.Nat.{le-trans, le-of-eq, lt-of-le-of-lt, zero-add, zero-mul, min-le-right, pow-suc}
+use mathlib.Core.Path.{_≡_, refl, sym, ap, _∙_, subst}
+use mathlib.Core.Bool.{Bool, true, false, not, cond}
+use Prim.Native.Nat.{ℕ, zero, suc, _+_, _-_, _*_, _/_, _%_, _^_, _≤_, _<_, min}
+use native.Mathlib.Nat.{le-trans, le-of-eq, lt-of-le-of-lt, zero-add, zero-mul, div-eq-of-lt, le-div-iff-mul-le, min-le-right, pow-suc}
 use native.Mathlib.Omega.{arith}
 use lib.Dec.{T, leb, ltb, ltb→lt, nltb→le, leb→le, nleb→lt}
 use lib.Pow.{pow-pos, shl-lt}
-use borrow.Author.Tests.{le-leb, lt-leb}
+use borrow.Author.Tests.{le-leb, lt-leb, leb-true, leb-false}
 use lib.Ieee.{Format, binary32, binary64, prec, hid, ones, top, size}
 use lib.Ieee.Digits.{size-lt, size-reaches}
 use lib.Ieee.Nearest.{closest}
 use Rattle.words.specs.Word.{minus}
-use Rattle.floats.specs.Pattern.{wordSize, fieldBits}
+use Rattle.floats.specs.Pattern.{wordSize, fieldBits, negative}
 use Rattle.floats.specs.Integer.{signed}
 use Rattle.rounding.specs.Rounded.{scaled, toPattern}
+use Rattle.floats.proofs.Cuts.{one-shifted}
 use Rattle.floats.proofs.Signed.{top-pos}
 use Rattle.floats.proofs.Formats.{infinity-lt, twice-hid, twice-top, pow-lt-back}
 use Rattle.rounding.proofs.Patterns.{sign}
@@ -62,8 +63,31 @@ module _ (f : Format) (g e : ℕ) where
   pub scaled-true : top f + scaled f false g e ≡ scaled f true g e
   scaled-true = let b = bare f g e in ap (λ (x : ℕ). top f + x) (b .is false ∙ zero-add (b .rest)) ∙ sym (b .is true)
 
+  with-sign : (s : Bool) → cond s (top f) 0 + scaled f false g e ≡ scaled f s g e
+  with-sign true = scaled-true
+  with-sign false = zero-add (scaled f false g e)
+
 -- ---- to patterns
+
+-- what stands from place k on is the sign bit, where nothing stands above it
+pub high-bit : (k i : ℕ) → k < 64 → i / 2 ^ k < 2 → (i / 2 ^ k * 2 ^ k) % 2 ^ 64 ≡ cond (leb (2 ^ k) i) (2 ^ k) 0
+high-bit k i h l = go (leb (2 ^ k) i) refl
+  where
+    go : (b : Bool) → leb (2 ^ k) i ≡ b → (i / 2 ^ k * 2 ^ k) % 2 ^ 64 ≡ cond b (2 ^ k) 0
+    go true e =
+        let n : 1 ≤ i / 2 ^ k = le-div-iff-mul-le {k = 2 ^ k} {x = 1} {y = i} (pow-pos k) .1 (omega (arith, leb-true (2 ^ k) i e)) in
+        let o : i / 2 ^ k ≡ 1 = omega arith in
+        rw o (one-shifted 64 k h)
+    go false e = rw (div-eq-of-lt (leb-false (2 ^ k) i e), zero-mul (2 ^ k))
+
+pub high-more : (k i : ℕ) → 2 ≤ i / 2 ^ k → leb (2 ^ k) i ≡ true
+high-more k i h = le-leb (2 ^ k) i (omega (arith, le-div-iff-mul-le {k = 2 ^ k} {x = 2} {y = i} (pow-pos k) .0 h))
+
 module _ (f : Format) (e i : ℕ) where
+  pub pattern-by-sign : cond (negative f i) (top f) 0 + scaled f false (signed f (negative f i) i) e ≡ toPattern f e i
+  unfolding toPattern
+  pattern-by-sign = with-sign f (signed f (negative f i) i) e (negative f i)
+
   pub pattern-of-positive : i < top f → scaled f false i e ≡ toPattern f e i
   unfolding toPattern signed
   pattern-of-positive h = rw (lt-leb (top f) i h)
