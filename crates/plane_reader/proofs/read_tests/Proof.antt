@@ -42,14 +42,14 @@ sub-left c = search needs
 least-requires : tie.Need-least-requires Inv-loop μ-loop
 least-requires c κs = search needs
 
-cast-read-part : tie.Need-cast-read-part Inv-loop μ-loop
-cast-read-part c = search needs
-
 sub-known-at : tie.Need-sub-known-at Inv-loop μ-loop
 sub-known-at c = search needs
 
 known-at-requires : tie.Need-known-at-requires Inv-loop μ-loop
 known-at-requires c κs = search needs
+
+cast-read-part : tie.Need-cast-read-part Inv-loop μ-loop
+cast-read-part c = search needs
 
 read-part-requires : tie.Need-read-part-requires Inv-loop μ-loop
 read-part-requires c κs = search needs
@@ -145,9 +145,9 @@ read-tests-spec =
     refill-requires
     sub-left
     least-requires
-    cast-read-part
     sub-known-at
     known-at-requires
+    cast-read-part
     read-part-requires
     sub-taken
     taken-requires
