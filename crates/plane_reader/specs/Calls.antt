@@ -27,11 +27,11 @@ ends g t = record { bits = []; rest = t; stage = g }
 abbrev pub pushed : Bool → Part → Part
 pushed b p = record { bits = b ∷ p .bits; rest = p .rest; stage = p .stage }
 
--- with m places left, of which the last one's one is known if m is `known`
+-- a scan with m places left of the part: its one is known if m is `known`
 abbrev pub orKnown : ℕ → ℕ → List Bool → Part → Part
 orKnown m known t p = cond (eqb m known) (pushed true (ends 2 t)) p
 
--- a test, and a scan, with m places left of the part; `known` is 1 in the last part of the places, and 0 before it
+-- a test, and a scan, with m places left of the part; `known` is 1 in the last part of a plane, and 0 before it
 abbrev mutual
   pub partTest : List Bool → ℕ → ℕ → Part
   partTest [] zero known = ends 0 []

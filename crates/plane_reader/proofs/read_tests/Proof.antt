@@ -42,30 +42,33 @@ sub-left c = search needs
 least-requires : tie.Need-least-requires Inv-loop μ-loop
 least-requires c κs = search needs
 
-cast-read-part : tie.Need-cast-read-part Inv-loop μ-loop
-cast-read-part c = search needs
-
 sub-known-at : tie.Need-sub-known-at Inv-loop μ-loop
 sub-known-at c = search needs
 
 known-at-requires : tie.Need-known-at-requires Inv-loop μ-loop
 known-at-requires c κs = search needs
 
+cast-read-part : tie.Need-cast-read-part Inv-loop μ-loop
+cast-read-part c = search needs
+
 read-part-requires : tie.Need-read-part-requires Inv-loop μ-loop
 read-part-requires c κs = search needs
 
 -- what the part that is read does
 part : (c : tie.After-read-part Inv-loop μ-loop)
-    → let l = c .before .before .before .before .before .before .before .before .loop in
-    let a = c .before .before .before .before .before .before .before .before .before .before .before .args in
+    → let filled = c .before .before .before .before .before .before in
+    let l = filled .before .before .loop in
+    let a = filled .before .before .before .before .before .args in
     let after = c .read-part .last .1 .1 .1 .1 in
-    PartDone (bitsOf (a .buf .now)) (a .end) (length (l .words)) (l .i) (l .next) (c .before .before .before .before .before .before .refill .result) (l .stage)
+    PartDone (bitsOf (a .buf .now)) (a .end) (length (l .words)) (l .i) (l .next) (filled .refill .result) (l .stage)
     (after .0) (after .1 .0) (after .1 .1 .0) (c .read-part .result)
 part c =
-    let l = c .before .before .before .before .before .before .before .before .loop in
-    let s = c .before .before .before .before .before .before .before .before .before .before .before in
-    part-done (length (l .words)) (l .i) (l .stage) _ _ (within-bits (s .args .buf .now) (s .pre .2)) (c .before .before .before .before .before .before .refill .ensures)
-    (c .before .before .before .before .before .before .before .loop-test .taken) (l .inv .2) (c .before .before .before .before .before .least .ensures) (c .before .before .before .before .known-at .ensures) (c .read-part .ensures)
+    let known = c .before .before .before .before in
+    let filled = known .before .before in
+    let l = filled .before .before .loop in
+    let s = filled .before .before .before .before .before in
+    part-done (length (l .words)) (l .i) (l .stage) _ _ (within-bits (s .args .buf .now) (s .pre .2)) (filled .refill .ensures)
+    (filled .before .loop-test .taken) (l .inv .2) (known .before .least .ensures) (known .known-at .ensures) (c .read-part .ensures)
 
 sub-taken : tie.Need-sub-taken Inv-loop μ-loop
 sub-taken c = part c .few
@@ -77,24 +80,27 @@ taken-requires c κs =
 
 add-bits-requires : tie.Need-add-bits-requires Inv-loop μ-loop
 add-bits-requires c κs =
-    let done = part (c .before .before .before) in
-    let l = c .before .before .before .before .before .before .before .before .before .before .before .loop in
-    let s = c .before .before .before .before .before .before .before .before .before .before .before .before .before .before in
+    let read = c .before .before .before in
+    let done = part read in
+    let l = read .before .before .before .before .before .before .before .before .loop in
+    let s = read .before .before .before .before .before .before .before .before .before .before .before in
     (s .pre .0, done .fits, omega (arith, done .short), l .inv .5)
 
 add-i : tie.Need-add-i Inv-loop μ-loop
 add-i c =
-    let s = c .before .before .before .before .before .before .before .before .before .before .before .before .before .before .before .before .before in
-    omega (arith, part (c .before .before .before .before .before .before) .fits, c .before .before .before .before .before .before .before .before .before .before .before .before .before .before .loop .inv .1)
+    let read = c .before .before .before .before .before .before in
+    let s = read .before .before .before .before .before .before .before .before .before .before .before in
+    omega (arith, part read .fits, read .before .before .before .before .before .before .before .before .loop .inv .1)
 
 same-length : tie.Need-same-length Inv-loop μ-loop
 same-length c = search needs
 
 returns : tie.Need-returns Inv-loop μ-loop
 returns c =
-    let done = part (c .before .before .before .before .before .before .before) in
-    let l = c .before .before .before .before .before .before .before .before .before .before .before .before .before .before .before .loop in
-    let s = c .before .before .before .before .before .before .before .before .before .before .before .before .before .before .before .before .before .before in
+    let read = c .before .before .before .before .before .before .before in
+    let done = part read in
+    let l = read .before .before .before .before .before .before .before .before .loop in
+    let s = read .before .before .before .before .before .before .before .before .before .before .before in
     let call = c .before .before .before .add-bits in
     let next = c .before .before .before .before .before .before .taken .ensures in
     going-ended _ _ (part-going (s .args .k) (l .words) done (call .ensures) (l .inv .6) (call .kept .0) next) (rw next (done .holds)) (c .if1 .taken)
@@ -106,9 +112,10 @@ loop-less c =
 
 loop-again : tie.Need-loop-again Inv-loop μ-loop
 loop-again c =
-    let done = part (c .before .before .before .before .before .before .before) in
-    let l = c .before .before .before .before .before .before .before .before .before .before .before .before .before .before .before .loop in
-    let s = c .before .before .before .before .before .before .before .before .before .before .before .before .before .before .before .before .before .before in
+    let read = c .before .before .before .before .before .before .before in
+    let done = part read in
+    let l = read .before .before .before .before .before .before .before .before .loop in
+    let s = read .before .before .before .before .before .before .before .before .before .before .before in
     let call = c .before .before .before .add-bits in
     let next = c .before .before .before .before .before .before .taken .ensures in (
       rw (call .kept .0) (done .fits),
@@ -138,9 +145,9 @@ read-tests-spec =
     refill-requires
     sub-left
     least-requires
-    cast-read-part
     sub-known-at
     known-at-requires
+    cast-read-part
     read-part-requires
     sub-taken
     taken-requires

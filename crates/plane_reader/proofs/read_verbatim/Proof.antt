@@ -64,21 +64,25 @@ add-i c = search needs
 
 loop-less : tie.Need-loop-less Inv-loop μ-loop
 loop-less c =
-    let l = c .before .before .before .before .before .before .before .before .before .before .loop in
-    let a = c .before .before .before .before .before .before .before .before .before .before .before .before .before .args in
-    least-less (a .n) (l .i) (c .before .before .before .before .before .before .before .before .before .loop-test .taken) (c .before .before .before .before .before .if1 .left)
+    let some = c .before .before .before .before .before in
+    let turn = some .before .before .before .before in
+    let l = turn .before .loop in
+    let a = turn .before .before .before .before .args in
+    least-less (a .n) (l .i) (turn .loop-test .taken) (some .if1 .left)
 
 loop-again : tie.Need-loop-again Inv-loop μ-loop
 loop-again c =
-    let l = c .before .before .before .before .before .before .before .before .before .before .loop in
-    let s = c .before .before .before .before .before .before .before .before .before .before .before .before .before in
-    let a = s .args in
     let call = c .before .before .before in
-    let have = c .before .before .before .before .before .before .before .before .refill .result .count in
-    let fits = least-fits (a .n) (l .i) have (c .before .before .before .before .before .before .least .ensures) (c .before .before .before .before .before .before .before .before .before .loop-test .taken) in (
+    let least = call .before .before .before in
+    let filled = least .before .before in
+    let turn = filled .before in
+    let l = turn .before .loop in
+    let s = turn .before .before .before .before in
+    let a = s .args in
+    let fits = least-fits (a .n) (l .i) (filled .refill .result .count) (least .least .ensures) (turn .loop-test .taken) in (
       fits .0,
       call .add-bits .kept .0 ∙ l .inv .1,
-      begun-more (l .inv .2) (within-bits (a .buf .now) (s .pre .2)) (c .before .before .before .before .before .before .before .before .refill .ensures) _ (le-trans (fits .0) (s .pre .1)) (fits .1)
+      begun-more (l .inv .2) (within-bits (a .buf .now) (s .pre .2)) (filled .refill .ensures) _ (le-trans (fits .0) (s .pre .1)) (fits .1)
           (call .add-bits .ensures) (c .taken .ensures),
     )
 
