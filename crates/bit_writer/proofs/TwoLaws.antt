@@ -13,7 +13,7 @@ use Rattle.bits.specs.Calls.{Written, withBits}
 use Rattle.bits.proofs.ChangeLaws.{changed-set, changed-more}
 use Rattle.bits.proofs.NumberLaws.{length-numberBits, numberBits-add, numberBits-mod, withBits-bits}
 use Rattle.bits.proofs.StreamLaws.{stored}
-use Rattle.bits.proofs.WriteLaws.{sets-append, write-whole, written-append}
+use Rattle.bits.proofs.WriteLaws.{sets-append, write-whole}
 
 -- a byte of a stream counts by its eight lowest bits
 byte-same : (l : List ℕ) (i x y : ℕ) → numberBits 8 x ≡ numberBits 8 y → bitsOf (set l i x) ≡ bitsOf (set l i y)
@@ -58,15 +58,8 @@ module _ (l : List ℕ) (out : Cursor) (v : ℕ) (whole : out .at % 8 ≡ 0) (ro
         few = omega (arith, bits);
       }
 
--- the lowest bits of a number are those of its lowest byte
-low-same : (k n : ℕ) → k ≤ 8 → numberBits k (n % 256) ≡ numberBits k n
+-- the lowest bits of a number are those of its lowest two bytes
+pub low-same : (k n : ℕ) → k ≤ 16 → numberBits k (n % 65536) ≡ numberBits k n
 low-same k n h =
-    let e : 8 - k + k ≡ 8 = omega arith in
-    sym (numberBits-mod k (n % 256)) ∙ ap (numberBits k) (rw e at (mod-mod-pow n (8 - k) k)) ∙ numberBits-mod k n
-
--- the bits up to the end of a byte, and those of the next one
-pub bytes-written : {before mid after : List ℕ} {out one next : Cursor} {limit : ℕ} (k v : ℕ) → k ≤ 8
-    → Written before mid out limit (numberBits k (v % 256)) one → Written mid after one limit (numberBits 8 (v / 2 ^ k % 256)) next
-    → Written before after out limit (numberBits (k + 8) v) next
-bytes-written k v h p q =
-    rw (numberBits-add k 8 v) (written-append (rw (low-same k v h) at p) (rw (low-same 8 (v / 2 ^ k) (omega arith)) at q))
+    let e : 16 - k + k ≡ 16 = omega arith in
+    sym (numberBits-mod k (n % 65536)) ∙ ap (numberBits k) (rw e at (mod-mod-pow n (16 - k) k)) ∙ numberBits-mod k n

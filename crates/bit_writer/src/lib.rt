@@ -30,16 +30,6 @@ fn put_two(buf: &mut [u8], out: Cursor, v: u64) -> Cursor
     }
 }
 
-// Writes the bits of v up to the end of two bytes, a byte at a time.
-fn put_slowly(buf: &mut [u8], out: Cursor, limit: usize, v: u64) -> Cursor
-    requires { ⌜ (limit ≤ 8 * length (now buf)) × (out .at + 16 < 2 ^ 32) × (out .writes ≤ out .at) ⌝ }
-    ensures { λ r. ⌜ Written (now (buf .entry)) (now (buf .exit)) out limit (numberBits (16 - out .at % 8) v) r × (r .writes ≤ out .writes + 2) ⌝ }
-{
-    let first = 8 - out.at % 8;
-    let one = bits::put_bits(buf, out, limit, (v % 256) as u32, first);
-    bits::put_bits(buf, one, limit, ((v >> first) % 256) as u32, 8)
-}
-
 // Writes the bits of v up to the end of two bytes.
 fn flush(buf: &mut [u8], out: Cursor, limit: usize, v: u64) -> Cursor
     requires { ⌜ (limit ≤ 8 * length (now buf)) × (out .at + 16 < 2 ^ 32) × (out .writes ≤ out .at) ⌝ }
@@ -49,7 +39,7 @@ fn flush(buf: &mut [u8], out: Cursor, limit: usize, v: u64) -> Cursor
     if at % 8 == 0 && at + 16 <= limit {
         put_two(buf, out, v)
     } else {
-        put_slowly(buf, out, limit, v)
+        bits::put_number(buf, out, limit, (v % 65536) as u32, 16 - at % 8)
     }
 }
 

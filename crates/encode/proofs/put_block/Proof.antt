@@ -22,7 +22,7 @@ put-integers-requires c κs =
     let made = number .before .before .before .before in
     let s = made .before .before .before .before .before in
     let bits = length-numberBits (made .form-of .result .bits) (made .form-of .result .head) in
-    let w = number .put-number .ensures in
+    let w = number .put-number .ensures .0 in
     let shape = s .pre .0 in
     let few = le-trans (made .form-of .ensures .few) (shape .planes) in (
       record { sized = shape .sized; dimension = shape .dimension; long = search needs; planes = few },
@@ -50,7 +50,7 @@ returns c =
     let number = branch .before .before .before in
     let made = number .before .before .before .before in
     let a = made .before .before .before .before .before .args in
-    with-planes (a .width) (made .form-of .ensures) (omega (arith, made .form-of .ensures .short, made .before .before .before .before .before .pre .6)) (branch .if1 .taken) (number .put-number .ensures) (put .put-integers .ensures)
+    with-planes (a .width) (made .form-of .ensures) (omega (arith, made .form-of .ensures .short, made .before .before .before .before .before .pre .6)) (branch .if1 .taken) (number .put-number .ensures .0) (put .put-integers .ensures)
 
 same-length-4 : tie.Need-same-length-4
 same-length-4 c = search needs
@@ -63,7 +63,7 @@ returns-2 c =
     let number = c .before .before .before in
     let made = number .before .before .before .before in
     let a = made .before .before .before .before .before .args in
-    without-planes (a .width) (made .form-of .ensures) (c .if1 .left) (number .put-number .ensures)
+    without-planes (a .width) (made .form-of .ensures) (c .if1 .left) (number .put-number .ensures .0)
 
 pub put-block-spec : {M : Type 1} → statement M
 put-block-spec =
