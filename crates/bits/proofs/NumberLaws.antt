@@ -60,10 +60,6 @@ pub digit-times : (b : Bool) (n : ℕ) → digit b * n ≤ n
 digit-times true n = omega arith
 digit-times false n = omega arith
 
-pub digit-bits : (b : Bool) → numberBits 1 (digit b) ≡ b ∷ []
-digit-bits true = refl
-digit-bits false = refl
-
 -- a number is read back from its bits, and bits from their number
 pub number-back : (k n : ℕ) → n < 2 ^ k → numberOf (numberBits k n) ≡ n
 number-back zero n h = sym (lt-one h)

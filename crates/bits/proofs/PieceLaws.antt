@@ -52,7 +52,3 @@ partly-all many p e h = (rw e at (p .written), omega (arith, p .last))
 pub most-bytes : (n bytes : ℕ) → 8 * bytes ≤ n → bytes + 2 ≤ mostWrites n
 unfolding mostWrites
 most-bytes n bytes h = omega arith
-
--- a piece more leaves less
-pub piece-less : {i j n m : ℕ} (at : ℕ) → i < n → m ≡ min (n - i) (8 - at % 8) → j ≡ i + m → n - j < n - i
-piece-less at h e f = omega arith

@@ -67,15 +67,15 @@ module _ (size : ℕ) (ws : List ℕ) (p : ℕ) (buf back : List ℕ) where
   not-coded h = rw h refl
 
   -- a written stream is as long as before, so that all of it is read
-  pub coded-and-read : {out next : Cursor} (buf′ back′ : List ℕ) (end at whole : ℕ) → codable size p (length ws) (length buf) ≡ true
-      → out .at ≡ 0 → end ≡ length buf * 8 → length buf′ ≡ length buf
-      → Written buf buf′ out end (planesCode size p ws) next
+  pub coded-and-read : (buf′ back′ : List ℕ) (end at whole : ℕ) → codable size p (length ws) (length buf) ≡ true
+      → end ≡ length buf * 8 → length buf′ ≡ length buf
+      → bitsOf buf′ ≡ write (bitsOf buf) 0 end (planesCode size p ws)
       → PlanesRead size back′ (length back) p (bitsOf buf′) 0 end at whole
       → planesBack true buf′ back′ ≡ planesThereAndBack size ws p buf back
   unfolding planesThereAndBack
-  coded-and-read buf′ back′ end at whole h start all long wrote got =
+  coded-and-read buf′ back′ end at whole h all long wrote got =
       let all′ : end ≡ 8 * length buf = omega (arith, all) in
-      let bits = rw (start, all′) at (wrote .bits) in
+      let bits = rw all′ at wrote in
       let words = got .words ∙ ap (readWords size (length back) p) (take-all end (bitsOf buf′) (omega (arith, length-bitsOf buf′, long))) in
       rw (h, words, bits) refl
 

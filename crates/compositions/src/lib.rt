@@ -3,6 +3,10 @@ pub mod archives;
 pub mod streams;
 
 ghost use mathlib.Core.Path.{_≡_};
+ghost use Prim.Native.Nat.{_*_, _≤_};
+ghost use lib.ListN.{length};
+ghost use Rattle.bits.specs.Stream.{bitsOf, write};
+ghost use Rattle.planes.specs.Coder.{planesCode};
 ghost use Rattle.compositions.specs.Composed.{codable, planesBack, planesThereAndBack};
 
 // Whether words of `size` bits can be coded to p planes into a buffer of so many bytes.
@@ -21,6 +25,26 @@ fn can_code(size: u32, p: u32, words: usize, bytes: usize) -> bool
     bytes <= 65536
 }
 
+// Words of `size` bits are coded to p planes at the start of a buffer of `end` bits.
+fn put_there(size: u32, words: &[u64], p: u32, buf: &mut [u8], end: usize)
+    requires { ⌜ (size ≤ 64) × (p ≤ size) × (length (now words) ≤ 256) × (end ≤ 8 * length (now buf)) ⌝ }
+    ensures { λ _. ⌜ bitsOf (now (buf .exit)) ≡ write (bitsOf (now (buf .entry))) 0 end (planesCode size p (now (words .entry))) ⌝ }
+{
+    let mut ors = [0u64; 256];
+    let n = words.len();
+    plane_writer::ones_from(words, &mut ors[..n]);
+    plane_writer::put_planes(
+        size,
+        words,
+        &ors[..n],
+        p,
+        buf,
+        bits::Cursor { at: 0, writes: 0 },
+        end,
+        end,
+    );
+}
+
 // Words of `size` bits are coded to p planes at the start of a buffer and read back, unless there are too many.
 pub fn planes_there_and_back(
     size: u32,
@@ -37,15 +61,7 @@ pub fn planes_there_and_back(
         return false;
     }
     let end = buf.len() * 8;
-    plane_writer::put_planes(
-        size,
-        words,
-        p,
-        buf,
-        bits::Cursor { at: 0, writes: 0 },
-        end,
-        end,
-    );
+    put_there(size, words, p, buf, end);
     plane_reader::read_planes(size, buf, 0, end, back, p);
     true
 }

@@ -25,7 +25,7 @@ use Rattle.codec.specs.Depth.{wholeIntegers, wholeWritten}
 use Rattle.codec.specs.Lowest.{planesAt, planesCoded}
 use Rattle.codec.specs.Calls.{integersCode, uncutFloats, uncutCode, uncutTo, wholeAt, Formed}
 use Rattle.encode.specs.Calls.{BlockCoded}
-use Rattle.planes.specs.Coder.{planesCode, mostBits}
+use Rattle.planes.specs.Coder.{planesCode}
 use Rattle.planes.proofs.Bound.{bound}
 use Rattle.codec.proofs.Depth.{written-most}
 use Rattle.codec.proofs.Lowest.{planes-at-most}

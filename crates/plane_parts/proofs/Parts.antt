@@ -1,13 +1,12 @@
 -- Parts of a plane, place by place: what a test and a scan write of them, and what they leave. Assumes nothing.
 use mathlib.Core.Path.{_≡_, refl, sym, ap, _∙_}
-use mathlib.Core.Bool.{Bool, true, false, true≢false, cond, _||_}
+use mathlib.Core.Bool.{Bool, true, false, true≢false}
 use mathlib.Core.List.{List, [], _∷_, _++_}
 use Prim.Native.Nat.{ℕ, zero, suc, _+_, _-_, _*_, _/_, _%_, _^_, _≤_, _<_}
 use native.Mathlib.Nat.{pow-suc}
 use native.Mathlib.Numerals.{add-one}
 use native.Mathlib.Omega.{arith}
 use lib.ListN.{length, length-map}
-use lib.Pow.{pow-pos}
 use Rattle.bits.specs.Stream.{bit, digit, numberBits, numberOf}
 use Rattle.bits.proofs.NumberLaws.{digit-lt, bits-back}
 use Rattle.planes.specs.Coder.{plane, any, answer, test, scan}

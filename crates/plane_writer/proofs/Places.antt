@@ -10,8 +10,8 @@ use borrow.Author.Tests.{le-ltb, ltb-true, ltb-false, eqb-true, eqb-false}
 use lib.Count.{leadingZeros, leading-unique}
 use lib.Dec.{eqb}
 use lib.Pow.{pow-pos}
-use lib.ListN.{length, take, drop, getD, length-map, List·getD-map, drop-of-length-le, length-drop, take-append-drop, length-append}
-use lib.Seq.{slice, drop-cons, length-take-le, drop-drop, getD-take, getD-drop, length-slice}
+use lib.ListN.{length, take, drop, getD, length-map, List·getD-map, drop-of-length-le, length-drop, take-append-drop}
+use lib.Seq.{slice, drop-cons, length-take-le, drop-drop, length-slice}
 use Rattle.bits.specs.Stream.{bit, digit, numberBits, numberOf}
 use Rattle.bits.proofs.NumberLaws.{numberOf-append}
 use Rattle.bits.proofs.StreamLaws.{drop-take, number-lt, part-back}

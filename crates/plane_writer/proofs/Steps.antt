@@ -1,12 +1,11 @@
 -- How a coder's steps are put together: a plane and then the planes below it, up to the budget.
-use mathlib.Core.Path.{_≡_, refl, sym, ap, _∙_}
+use mathlib.Core.Path.{_≡_, refl, sym, _∙_}
 use mathlib.Core.Bool.{Bool, true, false, cond}
 use mathlib.Core.List.{List, [], _∷_, _++_, append-assoc}
 use Prim.Native.Nat.{ℕ, suc, _+_, _-_, _*_, _≤_, _<_}
 use native.Mathlib.Omega.{arith}
 use borrow.Author.Tests.{le-leb, lt-leb}
 use lib.Dec.{leb}
-use lib.ListN.{length}
 use Rattle.bits.specs.Stream.{digit}
 use Rattle.bit_writer.specs.declared.Pending.{Pending}
 use Rattle.bit_writer.specs.Calls.{Ready, Pushed}

@@ -1,23 +1,9 @@
 -- What the contracts of `planes` and of the crates above it need beside document 01's definitions.
-use mathlib.Core.Path.{_≡_}
 use mathlib.Core.Bool.{Bool}
 use mathlib.Core.List.{List, [], _∷_, _++_}
 use Prim.Native.Nat.{ℕ, zero, suc, _+_, _^_, _≤_}
 use lib.ListN.{take, drop}
-use Rattle.bits.specs.declared.Cursor.{Cursor}
-use Rattle.bits.specs.Calls.{Written}
 use Rattle.planes.specs.Reader.{readPlane, readNext, addPlane}
-
--- ---- writing
-
--- the cursor at a place, after so many byte writes
-abbrev pub cursor : ℕ → ℕ → Cursor
-cursor at writes = record { at = at; writes = writes }
-
--- a code was written from the cursor's place on, and n, which is n′ after it, has moved `to` a place
-pub record Advanced (before after : List ℕ) (out : Cursor) (limit : ℕ) (code : List Bool) (to : ℕ) (next : Cursor) (n′ : ℕ) : Type 0 where
-  pub written : Written before after out limit code next
-  pub moved : n′ ≡ to
 
 -- ---- reading
 

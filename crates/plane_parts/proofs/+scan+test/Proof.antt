@@ -1,7 +1,4 @@
 -- The cycle of test and scan. The measure is twice the places left, and one more for a test; each writes its first bit, then what the rest writes.
-use mathlib.Core.Path.{_≡_, sym, _∙_}
-use mathlib.Core.Bool.{Bool}
-use mathlib.Core.List.{List}
 use Prim.Native.Nat.{ℕ, _<_, _+_, _*_}
 use native.Mathlib.Omega.{arith}
 use borrow.Author.Needs.{needs}

@@ -1,6 +1,4 @@
 -- The code of a part by its stage, as the bits of a number. Assumes nothing.
-use Prim.Native.Nat.{_+_, _*_}
-use mathlib.Core.Path.{_≡_}
 use native.Mathlib.Omega.{arith}
 use borrow.Author.Needs.{needs}
 use Rattle.plane_parts.proofs.Parts.{code-number}

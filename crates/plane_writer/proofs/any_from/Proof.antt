@@ -5,8 +5,6 @@ use Rattle.plane_writer.proofs.Ones.{none-past}
 use borrow.Author.Needs.{needs}
 use Rattle.plane_writer.proofs.any_from.Statement.{statement}
 use Rattle.plane_writer.proofs.any_from.Tie as tie
-use Rattle.plane_writer.proofs.any_from.Reads as reads
-use Rattle.plane_writer.proofs.any_from.Lts as lts
 
 -- src/lib.rt:66:10
 mul-result : tie.Need-mul-result

@@ -1,10 +1,9 @@
 -- The last part of a plane with ones in it: no ones follow, so its code ends the plane's. Assumes nothing.
-use mathlib.Core.Path.{_≡_, sym, ap, _∙_}
 use mathlib.Core.List.{append-nil}
-use Prim.Native.Nat.{ℕ, _+_, _≤_, _<_}
+use Prim.Native.Nat.{_+_}
 use native.Mathlib.Omega.{arith}
 use lib.Count.{leading-le}
-use lib.ListN.{length, drop}
+use lib.ListN.{drop}
 use lib.Seq.{slice}
 use Rattle.planes.specs.Coder.{plane}
 use Rattle.plane_writer.proofs.Places.{split-at, within-part, part-last, left-last-part, positive, last-end}

@@ -1,18 +1,16 @@
 -- The loop's invariant: from place i on each word tells its ones.
 use mathlib.Core.Path.{_≡_, sym, ap, _∙_}
-use Prim.Native.Nat.{ℕ, _+_, _-_, _≤_, _<_}
+use Prim.Native.Nat.{ℕ, _+_, _-_, _≤_}
 use native.Mathlib.Omega.{arith}
 use borrow.Author.Needs.{needs}
 use lib.Bits.{bitOr}
-use lib.ListN.{length, getD, set, drop, length-set}
+use lib.ListN.{length, getD, drop, length-set}
 use Rattle.bits.specs.Stream.{bit}
 use Rattle.planes.specs.Coder.{plane, any}
 use Rattle.plane_writer.proofs.Places.{plane-end}
 use Rattle.plane_writer.proofs.Ones.{bit-zero, none-past, ones-below, ones-set}
 use Rattle.plane_writer.proofs.ones_from.Statement.{statement}
 use Rattle.plane_writer.proofs.ones_from.Tie as tie
-use Rattle.plane_writer.proofs.ones_from.Reads as reads
-use Rattle.plane_writer.proofs.ones_from.Lts as lts
 
 abbrev Inv-loop : tie.InvT-loop
 Inv-loop words ors₀ all₀ i₀ ors all i =

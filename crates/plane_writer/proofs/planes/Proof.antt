@@ -1,11 +1,11 @@
 -- The loop's invariant: the planes above k are written, none of them past the budget, and counted.
-use mathlib.Core.Path.{_≡_, refl, sym, ap, _∙_}
+use mathlib.Core.Path.{_≡_, refl, _∙_}
 use mathlib.Core.List.{[]}
-use Prim.Native.Nat.{ℕ, _+_, _-_, _*_, _≤_, _<_}
+use Prim.Native.Nat.{_+_, _-_, _*_, _≤_, _<_}
 use native.Mathlib.Omega.{arith}
 use lib.ListN.{length}
 use Rattle.bit_writer.proofs.PushLaws.{start-ready, pushed-place}
-use Rattle.planes.specs.Coder.{plane, planesOf, codeFrom, planesCode, endsFrom, within, planesWithin}
+use Rattle.planes.specs.Coder.{planesOf, codeFrom, planesCode, endsFrom, within, planesWithin}
 use Rattle.plane_writer.proofs.Places.{plane-small}
 use Rattle.plane_writer.proofs.Steps.{Going, going-none, planes-more, count-whole, count-cut, one-less, top-count, used-more, long-enough, below-top, place-more, all-whole}
 use borrow.Author.Needs.{needs}

@@ -1,10 +1,10 @@
 -- The loop's invariant: who writes the rest of the plane, from a test on or within a scan, has written all of it.
 use mathlib.Core.Path.{_≡_, refl, sym, ap, _∙_}
-use mathlib.Core.Bool.{Bool, true, false, cond}
-use mathlib.Core.List.{List, _++_}
+use mathlib.Core.Bool.{Bool, true, cond}
+use mathlib.Core.List.{List}
 use Prim.Native.Nat.{ℕ, _+_, _-_, _*_, _≤_, _<_}
 use native.Mathlib.Omega.{arith}
-use lib.ListN.{length, getD, drop}
+use lib.ListN.{length, drop}
 use lib.Seq.{slice}
 use Rattle.bit_writer.specs.declared.Pending.{Pending}
 use Rattle.bit_writer.specs.Calls.{Ready, Pushed}

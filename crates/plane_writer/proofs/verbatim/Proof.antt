@@ -1,6 +1,6 @@
 -- The loop's invariant: the i first bits are written.
-use mathlib.Core.Path.{_≡_, refl, sym, ap, _∙_}
-use Prim.Native.Nat.{ℕ, _+_, _-_, _≤_, _<_}
+use mathlib.Core.Path.{_≡_, refl, _∙_}
+use Prim.Native.Nat.{_+_, _-_, _≤_}
 use native.Mathlib.Omega.{arith}
 use borrow.Author.Needs.{needs}
 use lib.ListN.{length, take}
@@ -12,11 +12,6 @@ use Rattle.planes.specs.Coder.{plane}
 use Rattle.plane_writer.proofs.Places.{first-length, gathered}
 use Rattle.plane_writer.proofs.verbatim.Statement.{statement}
 use Rattle.plane_writer.proofs.verbatim.Tie as tie
-use Rattle.plane_writer.proofs.verbatim.Reads as reads
-use Rattle.plane_writer.proofs.verbatim.Lts as lts
-use Rattle.bit_writer.proofs.push.Reads as push-reads
-use Rattle.bits.proofs.least.Reads as least-reads
-use Rattle.plane_parts.proofs.gather.Reads as gather-reads
 
 abbrev Inv-loop : tie.InvT-loop
 Inv-loop words k n buf₀ limit next₀ i₀ buf next i =
