@@ -46,7 +46,8 @@ pub partly-none : (bytes : List ℕ) (limit : ℕ) (out : Cursor) (bits left : �
 partly-none bytes limit out bits left h f =
     record { stored = []; split = refl; written = written-none bytes out limit; held = h; place = refl; fair = f; cheap = omega arith }
 
-pub partly-more : {before mid after : List ℕ} {limit bits₀ left₀ bits left c : ℕ} {out₀ out next : Cursor} → Partly before mid limit out₀ bits₀ left₀ out bits left
+pub partly-more : {before mid after : List ℕ} {limit bits₀ left₀ bits left c : ℕ} {out₀ out next : Cursor}
+    → Partly before mid limit out₀ bits₀ left₀ out bits left
     → c ≡ 16 - out .at % 8 → c ≤ left → Written mid after out limit (numberBits c bits) next → next .writes ≤ out .writes + 2
     → Partly before after limit out₀ bits₀ left₀ next (bits / 2 ^ c) (left - c)
 partly-more {bits = bits} {left} {c} {out = out} {next} p e h w two =

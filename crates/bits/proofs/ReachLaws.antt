@@ -28,7 +28,10 @@ reached-part {before} {out = out} {next} {limit} {budget} done (b ∷ more) e h 
     let long = h (omega arith) in
     let all = ap length e ∙ length-append done (b ∷ more) in
     record {
-      bits = rw e (w .bits ∙ sym (write-append (bitsOf before) (out .at) limit done (b ∷ more) ∙ write-past (write (bitsOf before) (out .at) limit done) (out .at + length done) limit (b ∷ more) (omega arith)));
+      bits = rw e
+          (w .bits
+          ∙ sym (write-append (bitsOf before) (out .at) limit done (b ∷ more)
+          ∙ write-past (write (bitsOf before) (out .at) limit done) (out .at + length done) limit (b ∷ more) (omega arith)));
       onward = omega (arith, w .moved);
       reached = omega (arith, w .moved, all);
       counted = w .counted;

@@ -115,7 +115,8 @@ number-above : (bs : List Bool) → any bs ≡ true → 2 ^ onesEnd bs ≤ 2 * n
 number-above [] e = absurd (true≢false (sym e))
 number-above (b ∷ bs) e = rw e (go b (any bs) refl e (λ f. number-above bs f))
   where
-    go : (c a : Bool) → any bs ≡ a → any (c ∷ bs) ≡ true → (any bs ≡ true → 2 ^ onesEnd bs ≤ 2 * numberOf bs) → 2 ^ suc (onesEnd bs) ≤ 2 * (digit c + 2 * numberOf bs)
+    go : (c a : Bool) → any bs ≡ a → any (c ∷ bs) ≡ true → (any bs ≡ true → 2 ^ onesEnd bs ≤ 2 * numberOf bs)
+        → 2 ^ suc (onesEnd bs) ≤ 2 * (digit c + 2 * numberOf bs)
     go c true f g h = omega (arith, h f, pow-suc 2 (onesEnd bs))
     go true false f g h = rw (end-none bs f) (omega arith)
     go false false f g h = absurd (true≢false (sym g ∙ f))

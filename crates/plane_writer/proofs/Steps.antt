@@ -65,7 +65,8 @@ module _ {at₂ n₂ total : ℕ} (lowest k n at budget whole : ℕ) (ws : List 
 
   pub count-cut : budget < at₂ → whole ≡ total
   count-cut l =
-      let c = rw (lt-leb at₂ budget l, none-past budget at₂ n₂ (planesOf (k - 1) (k - 1 - lowest) ws) l) at (count-more lowest k n at budget whole ws h end next all) in
+      let c = rw (lt-leb at₂ budget l, none-past budget at₂ n₂ (planesOf (k - 1) (k - 1 - lowest) ws) l) at
+      (count-more lowest k n at budget whole ws h end next all) in
       omega (arith, c)
 
 -- ---- counts of planes

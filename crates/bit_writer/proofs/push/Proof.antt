@@ -41,7 +41,8 @@ loop-holds c =
       refl,
       omega arith,
       partly-none _ _ _ _ _
-          (rw (moved-exact (w .count) n (s .args .v) (s .pre .1) (s .pre .2) (omega arith)) (above-lt (w .count) n (w .bits) (s .args .v) (s .pre .0 .held) (s .pre .1)))
+          (rw (moved-exact (w .count) n (s .args .v) (s .pre .1) (s .pre .2) (omega arith))
+          (above-lt (w .count) n (w .bits) (s .args .v) (s .pre .0 .held) (s .pre .1)))
           (s .pre .0 .fair),
     )
 

@@ -50,7 +50,8 @@ returns c =
     let number = branch .before .before .before in
     let made = number .before .before .before .before in
     let a = made .before .before .before .before .before .args in
-    with-planes (a .width) (made .form-of .ensures) (omega (arith, made .form-of .ensures .short, made .before .before .before .before .before .pre .6)) (branch .if1 .taken) (number .put-number .ensures .0) (put .put-integers .ensures)
+    let short = omega (arith, made .form-of .ensures .short, made .before .before .before .before .before .pre .6) in
+    with-planes (a .width) (made .form-of .ensures) short (branch .if1 .taken) (number .put-number .ensures .0) (put .put-integers .ensures)
 
 same-length-4 : tie.Need-same-length-4
 same-length-4 c = search needs

@@ -22,7 +22,8 @@ same-length c = search needs
 returns : tie.Need-returns
 returns c =
     let s = c .before .before .before .before .before .before .before .before in
-    rw (c .before .before .before .before .if1 .taken, sized (s .args .size) (s .pre .0) .size) (coded-whole (c .before .before .put-exact-planes .ensures .0), c .before .before .put-exact-planes .ensures .1)
+    let r = c .before .before .put-exact-planes .ensures in
+    rw (c .before .before .before .before .if1 .taken, sized (s .args .size) (s .pre .0) .size) (coded-whole (r .0), r .1)
 
 same-length-2 : tie.Need-same-length-2
 same-length-2 c = search needs
@@ -30,7 +31,9 @@ same-length-2 c = search needs
 returns-2 : tie.Need-returns-2
 returns-2 c =
     let s = c .before .before .before .before .before .before .before .before in
-    rw (c .before .before .before .before .if1 .left, sized (s .args .size) (s .pre .0) .size) (record { reached = c .before .before .put-planes .ensures .0; whole = λ e. absurd (true≢false (sym e)) }, c .before .before .put-planes .ensures .1)
+    let r = c .before .before .put-planes .ensures in
+    rw (c .before .before .before .before .if1 .left, sized (s .args .size) (s .pre .0) .size)
+    (record { reached = r .0; whole = λ e. absurd (true≢false (sym e)) }, r .1)
 
 pub put-coefficients-spec : {M : Type 1} → statement M
 put-coefficients-spec =

@@ -59,7 +59,9 @@ returns c =
     let few : needed .planes-needed .result ≤ 64 =
     omega (arith, needed .planes-needed .ensures, needed-range (s .args .size) (s .args .us .now) (omega arith), s .pre .0) in (
       rw (sized (s .args .size) (s .pre .0) .size, ← (needed .planes-needed .ensures), ← (k .count-bits .ensures .0))
-          (written-append (number .put-number .ensures .0) (reached-whole (planes .put-planes .ensures .0) (short (s .args .size) (needed .planes-needed .result) (s .args .us .now) (s .pre .2) (s .pre .3) few))),
+          (written-append (number .put-number .ensures .0)
+          (reached-whole (planes .put-planes .ensures .0)
+          (short (s .args .size) (needed .planes-needed .result) (s .args .us .now) (s .pre .2) (s .pre .3) few))),
       needed .planes-needed .ensures,
     )
 

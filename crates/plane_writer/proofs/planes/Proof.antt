@@ -7,7 +7,8 @@ use lib.ListN.{length}
 use Rattle.bit_writer.proofs.PushLaws.{start-ready, pushed-place}
 use Rattle.planes.specs.Coder.{planesOf, codeFrom, planesCode, endsFrom, within, planesWithin}
 use Rattle.plane_writer.proofs.Places.{plane-small}
-use Rattle.plane_writer.proofs.Steps.{Going, going-none, planes-more, count-whole, count-cut, one-less, top-count, used-more, long-enough, below-top, place-more, all-whole}
+use Rattle.plane_writer.proofs.Steps.{Going, going-none, planes-more, count-whole, count-cut, used-more}
+use Rattle.plane_writer.proofs.Steps.{one-less, top-count, long-enough, below-top, place-more, all-whole}
 use borrow.Author.Needs.{needs}
 use Rattle.plane_writer.proofs.planes.Statement.{statement}
 use Rattle.plane_writer.proofs.planes.Tie as tie
@@ -101,7 +102,8 @@ returns c =
     let g = planes-more lowest (l .k) (l .n) ws (turn .loop-test .taken) (l .inv .4) r in
     let used = used-more (l .next .out .at) (l .next .count) (a .out .at) (w .out .at) (w .count) _ (l .inv .7) at in
     let over : a .budget < w .out .at + w .count - a .out .at = rw (c .before .used .ensures) at (c .if1 .taken) in
-    let all = count-cut lowest (l .k) (l .n) (l .next .out .at + l .next .count - a .out .at) (a .budget) (a .size - l .k) ws (turn .loop-test .taken) used (r .moved) (l .inv .5) over in
+    let all = count-cut lowest (l .k) (l .n) (l .next .out .at + l .next .count - a .out .at) (a .budget) (a .size - l .k) ws
+    (turn .loop-test .taken) used (r .moved) (l .inv .5) over in
     let top = top-count (a .size) lowest (l .k) (turn .loop-test .taken) (l .inv .1) in
     let small = plane-small (l .k - 1) ws (l .n) (l .inv .2) in (
       record {
@@ -135,7 +137,8 @@ loop-again c =
     let g = planes-more lowest (l .k) (l .n) ws (turn .loop-test .taken) (l .inv .4) r in
     let used = used-more (l .next .out .at) (l .next .count) (a .out .at) (w .out .at) (w .count) _ (l .inv .7) at in
     let under : w .out .at + w .count - a .out .at ≤ a .budget = rw (c .before .used .ensures) at (c .if1 .left) in
-    let all = count-whole lowest (l .k) (l .n) (l .next .out .at + l .next .count - a .out .at) (a .budget) (a .size - l .k) ws (turn .loop-test .taken) used (r .moved) (l .inv .5) under in
+    let all = count-whole lowest (l .k) (l .n) (l .next .out .at + l .next .count - a .out .at) (a .budget) (a .size - l .k) ws
+    (turn .loop-test .taken) used (r .moved) (l .inv .5) under in
     let top = top-count (a .size) lowest (l .k) (turn .loop-test .taken) (l .inv .1) in
     let small = plane-small (l .k - 1) ws (l .n) (l .inv .2) in (
       below-top lowest (l .k) (turn .loop-test .taken),
@@ -144,7 +147,8 @@ loop-again c =
       put .put-plane .kept .1 .1 .1 .1 .0 ∙ l .inv .3,
       g,
       rw (top .2) all,
-      place-more (l .next .out .at + l .next .count) (a .out .at) (a .size) (l .k) _ _ (length ws) (l .inv .6) at (small .0) (s .pre .3) (turn .loop-test .taken) (l .inv .1),
+      place-more (l .next .out .at + l .next .count) (a .out .at) (a .size) (l .k) _ _ (length ws) (l .inv .6) at
+          (small .0) (s .pre .3) (turn .loop-test .taken) (l .inv .1),
       omega (arith, l .inv .7, r .pushed .written .moved),
     )
 

@@ -20,7 +20,8 @@ use Rattle.plane_writer.proofs.tests.Tie as tie
 
 abbrev Inv-loop : tie.InvT-loop
 Inv-loop words ors k n buf₀ limit next₀ i₀ testing₀ buf next i testing =
-    (length buf ≡ length buf₀) × (any (drop i (plane k words)) ≡ true) × Ready next × (next .out .at + next .count ≤ next₀ .out .at + next₀ .count + 3 * (i - n))
+    (length buf ≡ length buf₀) × (any (drop i (plane k words)) ≡ true) × Ready next
+    × (next .out .at + next .count ≤ next₀ .out .at + next₀ .count + 3 * (i - n))
     × (n ≤ i) × (i < length words)
     × ((after : List ℕ) (end : Pending) → Pushed buf after next limit (cond testing (test (drop i (plane k words))) (scan (drop i (plane k words)))) end
     → Pushed buf₀ after next₀ limit (test (drop n (plane k words))) end)
@@ -56,8 +57,13 @@ push-requires : tie.Need-push-requires Inv-loop μ-loop
 push-requires c κs =
     let code = c .before .code-of .ensures in
     let l = c .before .before .before .before .before .loop in
-    let s = c .before .before .before .before .before .before .before .before .before in
-    (l .inv .2, code .1, omega (arith, code .2), omega (arith, s .pre .5, l .inv .0), omega (arith, l .inv .3, l .inv .5, s .pre .3, s .pre .4 .short, s .pre .6))
+    let s = c .before .before .before .before .before .before .before .before .before in (
+      l .inv .2,
+      code .1,
+      omega (arith, code .2),
+      omega (arith, s .pre .5, l .inv .0),
+      omega (arith, l .inv .3, l .inv .5, s .pre .3, s .pre .4 .short, s .pre .6),
+    )
 
 add-bit-at : tie.Need-add-bit-at Inv-loop μ-loop
 add-bit-at c = search needs
@@ -98,12 +104,14 @@ loop-again c =
     let part = part-on (a .k) i 16 (g .gather .result) ws (omega arith) (g .gather .ensures) more in
     let whole = code .code-of .ensures .0 bs rest part in
     let left : leftAfter (l .loop .testing) bs rest ≡ cond (c .bit-at .result) (test rest) (scan rest) =
-    left-last (l .loop .testing) bs rest 15 (part .places) more ∙ ap (λ (b : Bool). cond b (test rest) (scan rest)) (last-bit (a .k) i ws (omega arith) ∙ sym (c .bit-at .ensures)) in
+    left-last (l .loop .testing) bs rest 15 (part .places) more
+    ∙ ap (λ (b : Bool). cond b (test rest) (scan rest)) (last-bit (a .k) i ws (omega arith) ∙ sym (c .bit-at .ensures)) in
+    let bits = length-numberBits (code .code-of .result .count) (code .code-of .result .bits) in
     let p = put .push .ensures in (
       put .push .kept .0 ∙ l .loop .inv .0,
       more,
       p .ready,
-      omega (arith, pushed-place p, length-numberBits (code .code-of .result .count) (code .code-of .result .bits), code .code-of .ensures .2, l .loop .inv .3, l .loop .inv .4),
+      omega (arith, pushed-place p, bits, code .code-of .ensures .2, l .loop .inv .3, l .loop .inv .4),
       omega (arith, l .loop .inv .4),
       within,
       (λ after end w. l .loop .inv .6 after end (rw (split-at i 16 d, ← whole, left) (pushed-append p w))),
