@@ -4,4 +4,5 @@ pub mod Adding
 pub mod First
 pub mod Stages
 pub mod Tests
+pub mod Short
 pub mod Reading

@@ -92,7 +92,7 @@ scan-cases t more (suc m) (suc r) known e some next =
     rw f (next m refl (omega arith))
 
 mutual
-  test-follows : (t more : List Bool) (m r known : ℕ) → known ≡ digit (eqb r 0) → (length t < 2 * m → more ≡ [])
+  pub test-follows : (t more : List Bool) (m r known : ℕ) → known ≡ digit (eqb r 0) → (length t < 2 * m → more ≡ [])
       → Follows (readTest (t ++ more) (m + r)) (partTest t m known) more r
   test-follows [] more zero r known e all = record { got = rw zero-add; left = λ h. absurd (omega arith) }
   test-follows [] more (suc m) r known e all = record { got = rw (all (omega arith), suc-add); left = λ h. absurd (omega arith) }

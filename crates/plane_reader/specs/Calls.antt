@@ -1,14 +1,14 @@
 -- What the reader's steps do.
 use mathlib.Core.Path.{_≡_}
 use mathlib.Core.Bool.{Bool, true, false, cond}
-use mathlib.Core.List.{List, [], _∷_}
-use Prim.Native.Nat.{ℕ, zero, suc, _+_, _*_, _^_, _≤_}
-use lib.Dec.{eqb, leb}
+use mathlib.Core.List.{List, [], _∷_, _++_}
+use Prim.Native.Nat.{ℕ, zero, suc, _+_, _-_, _*_, _^_, _≤_}
+use lib.Dec.{eqb, leb, ltb}
 use lib.ListN.{length, take, drop}
 use lib.Seq.{slice}
-use Rattle.bits.specs.Stream.{numberOf}
+use Rattle.bits.specs.Stream.{numberBits, numberOf}
 use Rattle.bit_reader.specs.declared.Window.{Window}
-use Rattle.bit_reader.specs.Calls.{place, Holds}
+use Rattle.bit_reader.specs.Calls.{place, Holds, shorter}
 use Rattle.planes.specs.Reader.{Got, readPlane, readNext, addPlane, readWords, wholePlanes}
 use Rattle.planes.specs.Calls.{addAt, restPlanes}
 
@@ -76,6 +76,13 @@ pub record FirstRead (ws ws′ : List ℕ) (k n : ℕ) (d : List Bool) (end : �
   pub holds : Holds d end w
   pub left : slice (place w) end d ≡ drop n s
   pub whole : whole′ ≡ leb n (length s)
+
+-- what reading plane k at n through the window w alone does: its n first bits and those of p, the part of all the places after them
+pub record ShortRead (ws ws′ : List ℕ) (k n : ℕ) (w : Window) (p : Part) (w′ : Window) (n′ : ℕ) (whole′ : Bool) : Type 0 where
+  pub words : ws′ ≡ addAt 0 k (numberBits n (w .bits) ++ p .bits) ws
+  pub moved : n′ ≡ n + length (p .bits)
+  pub window : w′ ≡ shorter w (w .count - length (p .rest))
+  pub whole : whole′ ≡ ltb (p .stage) 3
 
 -- what reading plane k at n does, from the place `at` of the stream d on
 pub record PlaneRead (ws ws′ : List ℕ) (k n : ℕ) (d : List Bool) (at end : ℕ) (w : Window) (n′ : ℕ) (whole′ : Bool) : Type 0 where
