@@ -8,9 +8,7 @@ use borrow.Author.Tests.{eq-eqb, ne-eqb, leb-true}
 use lib.Dec.{leb}
 use lib.ListN.{length, take, drop, length-append}
 use lib.Seq.{take-all}
-use Rattle.bits.specs.declared.Cursor.{Cursor}
-use Rattle.bits.specs.Stream.{bitsOf}
-use Rattle.bits.specs.Calls.{Written}
+use Rattle.bits.specs.Stream.{bitsOf, write}
 use Rattle.bits.proofs.StreamLaws.{length-bitsOf}
 use Rattle.planes.specs.Coder.{planesCode}
 use Rattle.planes.specs.Reader.{readWords}

@@ -25,24 +25,32 @@ fn can_code(size: u32, p: u32, words: usize, bytes: usize) -> bool
     bytes <= 65536
 }
 
-// Words of `size` bits are coded to p planes at the start of a buffer of `end` bits.
-fn put_there(size: u32, words: &[u64], p: u32, buf: &mut [u8], end: usize)
-    requires { ⌜ (size ≤ 64) × (p ≤ size) × (length (now words) ≤ 256) × (end ≤ 8 * length (now buf)) ⌝ }
+// Words of `size` bits are coded to p planes at the start of a buffer of `end` bits, in lent work space.
+fn put_by(size: u32, words: &[u64], ors: &mut [u64], p: u32, buf: &mut [u8], end: usize)
+    requires { ⌜ (size ≤ 64) × (p ≤ size) × (length (now words) ≤ 256) × (length (now ors) ≡ length (now words)) × (end ≤ 8 * length (now buf)) ⌝ }
     ensures { λ _. ⌜ bitsOf (now (buf .exit)) ≡ write (bitsOf (now (buf .entry))) 0 end (planesCode size p (now (words .entry))) ⌝ }
 {
-    let mut ors = [0u64; 256];
-    let n = words.len();
-    plane_writer::ones_from(words, &mut ors[..n]);
+    plane_writer::ones_from(words, ors);
     plane_writer::put_planes(
         size,
         words,
-        &ors[..n],
+        ors,
         p,
         buf,
         bits::Cursor { at: 0, writes: 0 },
         end,
         end,
     );
+}
+
+// The same in work space of its own.
+fn put_there(size: u32, words: &[u64], p: u32, buf: &mut [u8], end: usize)
+    requires { ⌜ (size ≤ 64) × (p ≤ size) × (length (now words) ≤ 256) × (end ≤ 8 * length (now buf)) ⌝ }
+    ensures { λ _. ⌜ bitsOf (now (buf .exit)) ≡ write (bitsOf (now (buf .entry))) 0 end (planesCode size p (now (words .entry))) ⌝ }
+{
+    let mut ors = [0u64; 256];
+    let n = words.len();
+    put_by(size, words, &mut ors[..n], p, buf, end);
 }
 
 // Words of `size` bits are coded to p planes at the start of a buffer and read back, unless there are too many.
