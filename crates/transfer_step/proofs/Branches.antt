@@ -179,7 +179,7 @@ module _ (t : Transfer) (f d : List ℕ) (s : Standing t f d) where
       record {
         within =
             record {
-              tables = record { same = s .d-sized ∙ sym (s .f-sized); some-place = rw (s .f-sized) (b .0); small = rw (s .f-sized) (b .1) };
+              tables = record { same = s .d-sized ∙ sym (s .f-sized); some-place = rw (s .f-sized) (b .0); small = rw (s .f-sized) (b .1); digits = b .2 .0; power = s .f-sized ∙ b .2 .1 };
               h-in = rw (s .f-sized) (q .0 .1);
               g-in = rw (s .f-sized) (q .0 .2);
             };
