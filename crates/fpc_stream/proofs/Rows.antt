@@ -22,7 +22,8 @@ good-bounds n e =
     last (eqb n 16 || eqb n 32 || eqb n 64 || eqb n 128 || eqb n 256 || eqb n 512)
     (last (eqb n 16 || eqb n 32 || eqb n 64 || eqb n 128 || eqb n 256)
     (last (eqb n 16 || eqb n 32 || eqb n 64 || eqb n 128)
-    (last (eqb n 16 || eqb n 32 || eqb n 64) (last (eqb n 16 || eqb n 32) (last (eqb n 16) (one 4 (omega arith)) 5 (omega arith)) 6 (omega arith)) 7 (omega arith))
+    (last (eqb n 16 || eqb n 32 || eqb n 64)
+    (last (eqb n 16 || eqb n 32) (last (eqb n 16) (one 4 (omega arith)) 5 (omega arith)) 6 (omega arith)) 7 (omega arith))
     8 (omega arith)) 9 (omega arith)) 10 (omega arith) e
   where
     one : (k : ℕ) → (0 < 2 ^ k) × (2 ^ k ≤ 1024) → eqb n (2 ^ k) ≡ true → Good n
@@ -32,7 +33,12 @@ good-bounds n e =
     last true h k b p = h refl
     last false h k b p = one k b p
 
--- tables of the lengths that tables have are tables
+-- two lists of a good size are tables, and so are two of the lengths that tables have
+pub sized : (f d : List ℕ) (n : ℕ) → goodSize n ≡ true → length f ≡ n → length d ≡ n → Tables f d
+sized f d n e lf ld =
+    let b = good-bounds n e in
+    record { same = ld ∙ sym lf; some-place = rw lf (b .0); small = rw lf (b .1); digits = b .2 .0; power = lf ∙ b .2 .1 }
+
 pub resized : (f d f′ d′ : List ℕ) → Tables f d → length f′ ≡ length f → length d′ ≡ length d → Tables f′ d′
 resized f d f′ d′ t lf ld =
     record { same = ld ∙ t .same ∙ sym lf; some-place = rw lf (t .some-place); small = rw lf (t .small); digits = t .digits; power = lf ∙ t .power }
@@ -42,8 +48,7 @@ module _ (f d : List ℕ) where
   unfolding goodTables
   good-tables e =
       let p = and-eq-true-iff (eqb (length f) (length d)) (goodSize (length f)) .0 e in
-      let b = good-bounds (length f) (p .1) in
-      record { same = sym (eqb-true (length f) (length d) (p .0)); some-place = b .0; small = b .1; digits = b .2 .0; power = b .2 .1 }
+      sized f d (length f) (p .1) refl (sym (eqb-true (length f) (length d) (p .0)))
 
   -- row 20
   pub write-20 : (doubles out : List ℕ) → goodTables f d ≡ false → unchanged 20 out f d ≡ fpcWriteOutcome f d doubles out

@@ -18,7 +18,7 @@ use Rattle.fpc_stream.specs.declared.Step.the-variants.{Double, Bad}
 use Rattle.fpc_stream.specs.Stream.{remainingCount}
 use Rattle.fpc_stream.specs.Reading.{Found, Answer, answered, answerOf, mostDoubles}
 use Rattle.fpc_stream.proofs.CodeLaws.{bytes-le}
-use Rattle.fpc_stream.proofs.Rows.{good-bounds}
+use Rattle.fpc_stream.proofs.Rows.{sized}
 use Rattle.fpc_step.proofs.WriteLaws.{same-size, within-next}
 use Rattle.transfer_step.proofs.FitLaws.{Fit, Counted, at-pair, in-first, in-second, after-end, after-damage, fit-of}
 use Rattle.transfer_step.specs.declared.Transfer.{Transfer}
@@ -174,12 +174,11 @@ module _ (t : Transfer) (f d : List ℕ) (s : Standing t f d) where
   pub stands-ready : (at k : ℕ) → at ≤ 2 ^ 19 → k ≤ 2 → Ready k t f d at
   stands-ready at k ha hk =
       let q = stands-fit in
-      let b = good-bounds (t .size) (q .0 .0) in
       let few = few-given (t .state) (t .given) (q .1) in
       record {
         within =
             record {
-              tables = record { same = s .d-sized ∙ sym (s .f-sized); some-place = rw (s .f-sized) (b .0); small = rw (s .f-sized) (b .1); digits = b .2 .0; power = s .f-sized ∙ b .2 .1 };
+              tables = sized f d (t .size) (q .0 .0) (s .f-sized) (s .d-sized);
               h-in = rw (s .f-sized) (q .0 .1);
               g-in = rw (s .f-sized) (q .0 .2);
             };
