@@ -24,7 +24,7 @@ fn refused(f: &mut [u64], d: &mut [u64], answer: u32, count: u32) -> Reply
     Reply { answer, count }
 }
 
-// The writer after rows 20 and 21: the length is measured first, with no room, so that row 22 leaves the output as it was.
+// The writer after rows 20 and 21, in room that may be too small: the length is measured first, with no room, so that row 22 leaves the output as it was.
 fn write_measured(f: &mut [u64], d: &mut [u64], doubles: &[u64], out: &mut [u8]) -> Reply
     requires { ⌜ Tables (now f) (now d) × (length (now doubles) ≤ mostDoubles) ⌝ }
     ensures { λ r. ⌜
@@ -36,6 +36,23 @@ fn write_measured(f: &mut [u64], d: &mut [u64], doubles: &[u64], out: &mut [u8])
         return refused(f, d, 22, n as u32);
     }
     write_run(f, d, doubles, out);
+    Reply {
+        answer: 0,
+        count: n as u32,
+    }
+}
+
+// The writer after rows 20 and 21: at once where the room holds 17 bytes for each pair, since no stream of as many doubles is longer.
+fn write_roomy(f: &mut [u64], d: &mut [u64], doubles: &[u64], out: &mut [u8]) -> Reply
+    requires { ⌜ Tables (now f) (now d) × (length (now doubles) ≤ mostDoubles) ⌝ }
+    ensures { λ r. ⌜
+        outcome r (now (out .exit)) (now (f .exit)) (now (d .exit))
+        ≡ delivered (length (now (f .entry))) (now (doubles .entry)) (stream (length (now (f .entry))) (now (doubles .entry))) (now (out .entry)) ⌝ }
+{
+    if out.len() < 17 * ((doubles.len() + 1) / 2) {
+        return write_measured(f, d, doubles, out);
+    }
+    let n = write_run(f, d, doubles, out);
     Reply {
         answer: 0,
         count: n as u32,
@@ -60,7 +77,7 @@ pub fn fpc_write(f: &mut [u64], d: &mut [u64], doubles: &[u64], out: &mut [u8]) 
             count: 0,
         };
     }
-    write_measured(f, d, doubles, out)
+    write_roomy(f, d, doubles, out)
 }
 
 // The reader after rows 20 and 21: the stream is read first with no room, so that rows 23 and 22 leave the output as it was; 23 comes before 22.

@@ -13,6 +13,7 @@ use Rattle.fpc_step.specs.declared.Place.{Place}
 use Rattle.words.specs.Word.{minus}
 use Rattle.fpc_stream.specs.Predictors.{startPredictors, Predictors, fcm, dfcm, fcmHash, dfcmHash, update}
 use Rattle.fpc_stream.specs.Calls.{Tables}
+use Rattle.fpc_stream.proofs.Rows.{resized}
 use Rattle.fpc_stream.specs.Bytes.{lowBytes}
 use Rattle.fpc_stream.specs.Stream.{remainingCount, remaining, remainingAfter, oddHalf, pairBytes, oddBytes}
 use Rattle.fpc_step.specs.Calls.{Within, predictors, Encoded, pairOf, Appended}
@@ -67,7 +68,7 @@ module _ (f d : List ℕ) (p : Place) (w : Within f d p) (v : ℕ) (f′ d′ : 
       let eh : q .h ≡ fcmHash (length f) (p .h) v = ap (λ (s : Predictors). s .h) e in
       let eg : q .g ≡ dfcmHash (length f) (p .g) (minus 64 v (p .last)) = ap (λ (s : Predictors). s .g) e in
       record {
-        tables = record { same = ld ∙ t .same ∙ sym same-size; some-place = rw same-size (t .some-place); small = rw same-size (t .small) };
+        tables = resized f d f′ d′ t same-size ld;
         h-in = rw (same-size, eh) (mod-lt _ (t .some-place));
         g-in = rw (same-size, eg) (mod-lt _ (t .some-place));
       }
@@ -102,7 +103,7 @@ module _ (f d f₀ d₀ : List ℕ) (t : Tables f₀ d₀) (ef : f ≡ replicate
   pub start-within : Within f d (record { h = 0; g = 0; last = 0 })
   start-within =
       record {
-        tables = record { same = ld ∙ t .same ∙ sym lf; some-place = rw lf (t .some-place); small = rw lf (t .small) };
+        tables = resized f₀ d₀ f d t lf ld;
         h-in = rw lf (t .some-place);
         g-in = rw lf (t .some-place);
       }

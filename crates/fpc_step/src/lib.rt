@@ -54,9 +54,10 @@ pub fn advance(f: &mut [u64], d: &mut [u64], p: Place, v: u64) -> Place
     let t = std::num::wrapping_sub_u64(v, p.last);
     f[h] = v;
     d[g] = t;
+    let mask = f.len() - 1;
     Place {
-        h: ((h * 64) ^ (v >> 48) as usize) % f.len(),
-        g: ((g * 4) ^ (t >> 40) as usize) % f.len(),
+        h: ((h * 64) ^ (v >> 48) as usize) & mask,
+        g: ((g * 4) ^ (t >> 40) as usize) & mask,
         last: v,
     }
 }

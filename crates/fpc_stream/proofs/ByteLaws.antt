@@ -1,12 +1,14 @@
 -- Bytes of a number and the number of bytes, lowest first: each undoes the other. Assumes nothing.
-use mathlib.Core.Path.{_≡_, refl, ap, subst}
+use mathlib.Core.Path.{_≡_, refl, ap, _∙_, subst}
 use mathlib.Core.List.{List, [], _∷_}
 use Prim.Native.Nat.{ℕ, zero, suc, _+_, _-_, _*_, _/_, _%_, _^_, _≤_, _<_}
-use native.Mathlib.Nat.{div-lt-iff-lt-mul, pow-suc, lt-of-lt-of-le, pow-le-pow-right}
+use native.Mathlib.Nat.{zero-add, suc-add, mul-assoc, pow-suc, pow-succ', pow-le-pow-right, lt-of-lt-of-le, div-lt-iff-lt-mul, mod-eq-of-lt}
+use native.Mathlib.Nat.{add-mul-mod-self-left}
+use native.Mathlib.Numerals.{add-one}
 use native.Mathlib.Omega.{arith}
 use lib.Dec.{lit<}
-use lib.ListN.{length, take, drop, getD, set}
-use lib.Seq.{drop-cons, getD-drop, sets}
+use lib.ListN.{length, take, drop, getD, set, length-drop}
+use lib.Seq.{drop-cons, drop-drop, getD-drop, sets}
 use Rattle.words.specs.Word.{AllBelow}
 use Rattle.fpc_stream.specs.Bytes.{lowBytes, fromBytes}
 
@@ -39,6 +41,27 @@ low-from (suc n) (b ∷ s) l h =
     let m : (b + 256 * x) % 256 ≡ b = omega arith in
     let d : (b + 256 * x) / 256 ≡ x = omega arith in
     rw (m, d, low-from n s (omega arith) (λ j. h (suc j)))
+
+-- bytes in two parts
+pub from-parts : (m n : ℕ) (s : List ℕ) → m ≤ length s → fromBytes (take (m + n) s) ≡ fromBytes (take m s) + 256 ^ m * fromBytes (take n (drop m s))
+from-parts zero n s l = rw (zero-add n) (omega arith)
+from-parts (suc m) n [] l = absurd (omega arith)
+from-parts (suc m) n (b ∷ s) l =
+    let x = fromBytes (take n (drop m s)) in
+    let e : 256 ^ suc m * x ≡ 256 * (256 ^ m * x) = ap (λ (y : ℕ). y * x) (pow-succ' 256 m) ∙ mul-assoc 256 (256 ^ m) x in
+    rw (suc-add, e) (omega (arith, from-parts m n s (omega arith)))
+
+-- in two halves, from a place on; and two bytes
+pub from-halves : (k : ℕ) (s : List ℕ) (at : ℕ) → at + k ≤ length s
+    → fromBytes (take (k + k) (drop at s)) ≡ fromBytes (take k (drop at s)) + 256 ^ k * fromBytes (take k (drop (at + k) s))
+from-halves k s at l = rw (← drop-drop k at s) (from-parts k k (drop at s) (omega (arith, length-drop at s)))
+
+pub from-two : (s : List ℕ) (at : ℕ) → at + 2 ≤ length s → fromBytes (take 2 (drop at s)) ≡ getD s at 0 + 256 * getD s (at + 1) 0
+from-two s at l = rw (add-one, drop-cons s at 0 (omega arith), drop-cons s (suc at) 0 (omega arith)) (omega arith)
+
+-- the first part is what is left of all modulo its size
+pub from-first : (m n : ℕ) (s : List ℕ) → m ≤ length s → AllBelow 256 s → fromBytes (take (m + n) s) % 256 ^ m ≡ fromBytes (take m s)
+from-first m n s l h = rw (from-parts m n s l) (add-mul-mod-self-left _ _ _ ∙ mod-eq-of-lt (from-lt m s h))
 
 -- one turn of the loop that writes a number's bytes, lowest first
 pub put-turn : (l : List ℕ) (at n i y : ℕ) → i < n

@@ -13,7 +13,7 @@ use Rattle.fpc_stream.specs.Predictors.{side, prediction}
 use Rattle.fpc_stream.specs.Stream.{zeroBytes, zeroBytesCode, remainingCount, residualCode, residual, halfByte}
 
 -- 2 ^ (8 * n) in bytes
-pow-mul : (k n : ℕ) → 2 ^ (k * n) ≡ (2 ^ k) ^ n
+pub pow-mul : (k n : ℕ) → 2 ^ (k * n) ≡ (2 ^ k) ^ n
 pow-mul k zero = ap (λ (x : ℕ). 2 ^ x) (mul-zero k) ∙ sym (pow-zero (2 ^ k))
 pow-mul k (suc n) = ap (λ (x : ℕ). 2 ^ x) (mul-suc k n) ∙ pow-add 2 (k * n) k ∙ ap (λ (x : ℕ). x * 2 ^ k) (pow-mul k n) ∙ sym (pow-suc (2 ^ k) n)
 

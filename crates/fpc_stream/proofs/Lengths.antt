@@ -30,7 +30,11 @@ stream-from-le size s (v ∷ w ∷ vs) =
     let s″ = update size (update size s v) w in
     omega (arith, length-append (pairBytes size s v w) (streamFrom size s″ vs), pair-le size s v w, stream-from-le size s″ vs)
 
+-- a stream takes at most 17 bytes for each pair
+pub stream-most : (size : ℕ) (vs : List ℕ) → length (stream size vs) ≤ 17 * ((length vs + 1) / 2)
+unfolding stream
+stream-most size vs = stream-from-le size (startPredictors size) vs
+
 -- the stream of at most 4,096 doubles is at most 34,816 bytes
 pub stream-le : (size : ℕ) (vs : List ℕ) → length vs ≤ mostDoubles → length (stream size vs) ≤ 34816
-unfolding stream
-stream-le size vs h = omega (arith, stream-from-le size (startPredictors size) vs)
+stream-le size vs h = omega (arith, stream-most size vs)

@@ -1,14 +1,15 @@
 -- What each way through the code of a byte leaves is what the machine does there. Assumes nothing.
 use mathlib.Core.Path.{_≡_, refl, sym, ap, _∙_, subst}
-use mathlib.Core.Bool.{true, false}
+use mathlib.Core.Bool.{Bool, true, false, _&&_, cond, and-eq-true-iff}
 use mathlib.Core.List.{List, [], _∷_}
 use mathlib.Core.Option.{Option, none, some, Option·some-injective}
 use Prim.Native.Nat.{ℕ, suc, _+_, _/_, _%_, _^_, _≤_, _<_}
 use native.Mathlib.Nat.{add-zero}
 use native.Mathlib.Numerals.{add-one}
 use native.Mathlib.Omega.{arith}
+use lib.Dec.{eqb}
 use lib.ListN.{length, set, length-append}
-use borrow.Author.Tests.{eq-eqb, ne-eqb}
+use borrow.Author.Tests.{eq-eqb, ne-eqb, eqb-true, eqb-false}
 use Rattle.bits.proofs.WriteLaws.{sets-append}
 use Rattle.fpc_step.specs.declared.Place.{Place}
 use Rattle.fpc_step.specs.Calls.{predictors}
@@ -18,15 +19,16 @@ use Rattle.fpc_stream.specs.declared.Step.the-variants.{Double, Bad}
 use Rattle.fpc_stream.specs.Stream.{remainingCount}
 use Rattle.fpc_stream.specs.Reading.{Found, Answer, answered, answerOf, mostDoubles}
 use Rattle.fpc_stream.proofs.CodeLaws.{bytes-le}
-use Rattle.fpc_stream.proofs.Rows.{good-bounds}
+use Rattle.fpc_stream.proofs.Rows.{sized}
 use Rattle.fpc_step.proofs.WriteLaws.{same-size, within-next}
+use Rattle.transfer_step.proofs.FeedLaws.{byte-full, byte-second, byte-other}
 use Rattle.transfer_step.proofs.FitLaws.{Fit, Counted, at-pair, in-first, in-second, after-end, after-damage, fit-of}
 use Rattle.transfer_step.specs.declared.Transfer.{Transfer}
 use Rattle.transfer_step.specs.declared.Taken.{Taken}
 use Rattle.transfer_step.specs.Machine.{Machine, Fed, atPair, inSecond, inFirst, ended, turned, begun, holding, past, silent, gives, damage}
-use Rattle.transfer_step.specs.Machine.{judgement, goesOut, judged, odd, second, first}
-use Rattle.transfer_step.specs.Record.{machine, transfer, heldBelow}
-use Rattle.transfer_step.specs.Calls.{placeOf, moved, Ready, Standing, Gave}
+use Rattle.transfer_step.specs.Machine.{judgement, goesOut, judged, odd, second, first, feedByte}
+use Rattle.transfer_step.specs.Record.{machine, transfer}
+use Rattle.transfer_step.specs.Calls.{placeOf, moved, withByte, full, Ready, Standing, Gave}
 
 -- nothing goes out
 pub gave-silent : (r : Fed) (out : List ℕ) (at : ℕ) (t : Transfer) (f d : List ℕ) → r ≡ silent (machine t f d)
@@ -174,12 +176,11 @@ module _ (t : Transfer) (f d : List ℕ) (s : Standing t f d) where
   pub stands-ready : (at k : ℕ) → at ≤ 2 ^ 19 → k ≤ 2 → Ready k t f d at
   stands-ready at k ha hk =
       let q = stands-fit in
-      let b = good-bounds (t .size) (q .0 .0) in
       let few = few-given (t .state) (t .given) (q .1) in
       record {
         within =
             record {
-              tables = record { same = s .d-sized ∙ sym (s .f-sized); some-place = rw (s .f-sized) (b .0); small = rw (s .f-sized) (b .1) };
+              tables = sized f d (t .size) (q .0 .0) (s .f-sized) (s .d-sized);
               h-in = rw (s .f-sized) (q .0 .1);
               g-in = rw (s .f-sized) (q .0 .2);
             };
@@ -188,21 +189,60 @@ module _ (t : Transfer) (f d : List ℕ) (s : Standing t f d) where
         early = omega arith;
       }
 
-  pub ready-begun : (at : ℕ) → at ≤ 2 ^ 19 → (b : ℕ) (t′ : Transfer) → t′ ≡ transfer (begun (machine t [] []) b) → Ready 2 t′ f d at
-  ready-begun at ha b t′ e =
-      let r = stands-ready at 2 ha (omega arith) in
-      subst (λ (x : Transfer). Ready 2 x f d at) (sym e) (record { within = r .within; sized = r .sized; few = r .few; early = r .early })
+  pub ready-with : (at k : ℕ) → at ≤ 2 ^ 19 → k ≤ 2 → (b : ℕ) (t′ : Transfer) → t′ ≡ transfer (withByte (machine t [] []) b) → Ready k t′ f d at
+  ready-with at k ha hk b t′ e = subst (λ (x : Transfer). Ready k x f d at) (sym e) (go (eqb (t .state) atPair) (stands-ready at k ha hk))
+    where
+      go : (p : Bool) → Ready k t f d at → Ready k (transfer (cond p (begun (machine t [] []) b) (holding (machine t [] []) b))) f d at
+      go true r = record { within = r .within; sized = r .sized; few = r .few; early = r .early }
+      go false r = record { within = r .within; sized = r .sized; few = r .few; early = r .early }
 
-  pub ready-holding : (at k : ℕ) → at ≤ 2 ^ 19 → k ≤ 2 → (b : ℕ) (t′ : Transfer) → t′ ≡ transfer (holding (machine t [] []) b) → Ready k t′ f d at
-  ready-holding at k ha hk b t′ e =
-      let r = stands-ready at k ha hk in
-      subst (λ (x : Transfer). Ready k x f d at) (sym e) (record { within = r .within; sized = r .sized; few = r .few; early = r .early })
+  pub holds : (t .held < 8) × (t .value < 256 ^ t .held)
+  holds = (omega (arith, stands-fit .3, below (eqb (t .state) inFirst) (eqb (t .state) inSecond)), stands-fit .4)
+    where
+      below : (p q : Bool) → cond p (remainingCount (t .pair / 16 % 8)) (cond q (remainingCount (t .pair % 16 % 8)) 1) ≤ 8
+      below true q = bytes-le (t .pair / 16 % 8)
+      below false true = bytes-le (t .pair % 16 % 8)
+      below false false = omega arith
 
-  held-short : (state : ℕ) → t .state ≡ state → t .held < heldBelow state (t .pair)
-  held-short state e = subst (λ (x : ℕ). t .held < heldBelow x (t .pair)) e (stands-fit .3)
+-- the record with one more byte of a pair is the machine with it
+pub with-machine : (t : Transfer) (f d : List ℕ) (b : ℕ) → machine (transfer (withByte (machine t [] []) b)) f d ≡ withByte (machine t f d) b
+with-machine t f d b = go (eqb (t .state) atPair)
+  where
+    go : (p : Bool) → machine (transfer (cond p (begun (machine t [] []) b) (holding (machine t [] []) b))) f d
+        ≡ cond p (begun (machine t f d) b) (holding (machine t f d) b)
+    go true = refl
+    go false = refl
 
-  pub holds-first : t .state ≡ inFirst → (t .held < 8) × (t .value < 256 ^ t .held)
-  holds-first e = (omega (arith, held-short inFirst e, bytes-le (t .pair / 16 % 8)), stands-fit .4)
+-- what a byte does, by the state that it leads to
+module _ (m : Machine) (b : ℕ) where
+  pub byte-past : full m ≡ true → feedByte m b ≡ damage m
+  byte-past e =
+      let p = and-eq-true-iff (eqb (m .state) atPair) (eqb (m .given) mostDoubles) .0 e in
+      byte-full m b (eqb-true _ _ (p .0)) (eqb-true _ _ (p .1))
 
-  pub holds-second : t .state ≡ inSecond → (t .held < 8) × (t .value < 256 ^ t .held)
-  holds-second e = (omega (arith, held-short inSecond e, bytes-le (t .pair % 16 % 8)), stands-fit .4)
+  pub to-first : full m ≡ false → withByte m b .state ≡ inFirst → feedByte m b ≡ first (withByte m b)
+  unfolding feedByte
+  to-first = go (eqb (m .state) atPair) (eqb (m .given) mostDoubles)
+    where
+      go : (p q : Bool) → (p && q) ≡ false → cond p (begun m b) (holding m b) .state ≡ inFirst
+          → cond p (cond q (damage m) (first (begun m b)))
+          (cond (eqb (m .state) inFirst) (first (holding m b)) (cond (eqb (m .state) inSecond) (second (holding m b)) (damage m)))
+          ≡ first (cond p (begun m b) (holding m b))
+      go true true e h = absurd (let z : _≡_ {A = ℕ} 1 0 = cc in omega arith)
+      go true false e h = refl
+      go false q e h = rw (eq-eqb _ _ h)
+
+  pub to-second : withByte m b .state ≡ inSecond → feedByte m b ≡ second (withByte m b)
+  to-second = go (eqb (m .state) atPair)
+    where
+      go : (p : Bool) → cond p (begun m b) (holding m b) .state ≡ inSecond → feedByte m b ≡ second (cond p (begun m b) (holding m b))
+      go true h = absurd (omega arith)
+      go false h = byte-second m b h
+
+  pub to-other : (withByte m b .state ≡ inFirst → ⊥) → (withByte m b .state ≡ inSecond → ⊥) → feedByte m b ≡ damage m
+  to-other = go (eqb (m .state) atPair) (eqb-false (m .state) atPair)
+    where
+      go : (p : Bool) → (p ≡ false → m .state ≡ atPair → ⊥) → (cond p (begun m b) (holding m b) .state ≡ inFirst → ⊥)
+          → (cond p (begun m b) (holding m b) .state ≡ inSecond → ⊥) → feedByte m b ≡ damage m
+      go true n h k = absurd (h refl)
+      go false n h k = byte-other m b (n refl) h k

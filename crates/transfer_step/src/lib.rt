@@ -17,7 +17,7 @@ ghost use Rattle.fpc_stream.specs.Reading.{answered, answerOf};
 ghost use Rattle.fpc_step.specs.Calls.{Within};
 ghost use Rattle.transfer_step.specs.Machine.{odd, begun, holding, turned, silent, judgement, judged, second, first, feedByte, feed};
 ghost use Rattle.transfer_step.specs.Record.{machine, transfer};
-ghost use Rattle.transfer_step.specs.Calls.{placeOf, moved, Ready, Standing, Gave};
+ghost use Rattle.transfer_step.specs.Calls.{placeOf, moved, withByte, full, Ready, Standing, Gave};
 
 // Where a transfer stands: closed, at a pair's byte, in its first double, in its second, after the odd end, damaged.
 pub const CLOSED: u32 = 0;
@@ -131,6 +131,18 @@ fn hold(t: Transfer, b: u8) -> Transfer
     }
 }
 
+// One more byte of a pair: its own byte, or one of the double in hand.
+fn with_byte(t: Transfer, b: u8) -> Transfer
+    requires { ⌜ (t .held < 8) × (t .value < 256 ^ t .held) ⌝ }
+    ensures { λ r. ⌜ r ≡ transfer (withByte (machine t [] []) b) ⌝ }
+{
+    if t.state == AT_PAIR {
+        begin(t, b)
+    } else {
+        hold(t, b)
+    }
+}
+
 // A double went out, and the predictors stand at p.
 fn pass(t: Transfer, state: u32, p: Place) -> Transfer
     requires { ⌜ t .given < 2 ^ 20 ⌝ }
@@ -155,6 +167,17 @@ fn is_odd(t: Transfer) -> bool
 {
     if t.pair % 16 == 6 {
         t.value == 0
+    } else {
+        false
+    }
+}
+
+// Whether no pair may begin any more: after 4,096 doubles.
+fn is_full(t: Transfer) -> bool
+    ensures { λ r. ⌜ r ≡ full (machine t [] []) ⌝ }
+{
+    if t.state == AT_PAIR {
+        t.given == 4096
     } else {
         false
     }
@@ -255,20 +278,18 @@ fn fed_byte(t: Transfer, f: &mut [u64], d: &mut [u64], b: u8, out: &mut [u64], a
         Gave (feedByte (machine t (now (f .entry)) (now (d .entry))) b)
         (now (out .entry)) at r (now (out .exit)) (now (f .exit)) (now (d .exit)) ⌝ }
 {
-    if t.state == AT_PAIR {
-        if t.given == 4096 {
-            return Taken {
-                transfer: turn(t, DAMAGED),
-                next: at,
-            };
-        }
-        return in_first(begin(t, b), f, d, out, at);
+    if is_full(t) {
+        return Taken {
+            transfer: turn(t, DAMAGED),
+            next: at,
+        };
     }
-    if t.state == IN_FIRST {
-        return in_first(hold(t, b), f, d, out, at);
+    let s = with_byte(t, b);
+    if s.state == IN_FIRST {
+        return in_first(s, f, d, out, at);
     }
-    if t.state == IN_SECOND {
-        return in_second(hold(t, b), f, d, out, at);
+    if s.state == IN_SECOND {
+        return in_second(s, f, d, out, at);
     }
     Taken {
         transfer: turn(t, DAMAGED),

@@ -12,7 +12,7 @@ use Rattle.fpc.proofs.fpc_write.Tie as tie
 abbrev entry : tie.After-good-lengths → tie.Start
 entry c = c .before .before .before .before .before
 
-abbrev tested : tie.After-write-measured → tie.Else2
+abbrev tested : tie.After-write-roomy → tie.Else2
 tested c = c .before .before .before .before
 
 -- the tables are not good, or are
@@ -37,8 +37,8 @@ returns-2 c =
     let a = entry (c .before .before) .args in
     write-21 (a .f .now) (a .d .now) (good (c .before)) (a .doubles .now) (a .out .now) (c .if2 .taken)
 
-write-measured-requires : tie.Need-write-measured-requires
-write-measured-requires c κs =
+write-roomy-requires : tie.Need-write-roomy-requires
+write-roomy-requires c κs =
     let t = c .before .before .before in
     (good-tables _ _ (good (t .before)), t .if2 .left)
 
@@ -56,7 +56,7 @@ returns-3 c =
     let r = c .before .before .before .before .before .before in
     let t = tested r in
     let a = entry (t .before .before) .args in
-    r .write-measured .ensures ∙ write-later (a .f .now) (a .d .now) (good (t .before)) (a .doubles .now) (a .out .now) (t .if2 .left)
+    r .write-roomy .ensures ∙ write-later (a .f .now) (a .d .now) (good (t .before)) (a .doubles .now) (a .out .now) (t .if2 .left)
 
 pub fpc-write-spec : {M : Type 1} → statement M
 fpc-write-spec =
@@ -65,7 +65,7 @@ fpc-write-spec =
     good-lengths-requires
     returns
     returns-2
-    write-measured-requires
+    write-roomy-requires
     same-length
     same-length-2
     same-length-3

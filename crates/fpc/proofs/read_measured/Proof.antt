@@ -9,6 +9,7 @@ use Rattle.fpc_run.specs.declared.Reply.{Reply}
 use Rattle.fpc_run.specs.Calls.{RanAs}
 use Rattle.fpc.specs.Calls.{Refused}
 use Rattle.fpc_stream.specs.Reading.{read}
+use Rattle.fpc_stream.proofs.Rows.{resized}
 use Rattle.fpc.proofs.Delivery.{ClearedAt, cleared, read-23, read-22, read-0}
 use Rattle.fpc.proofs.read_measured.Statement.{statement}
 use Rattle.fpc.proofs.read_measured.Tie as tie
@@ -107,7 +108,9 @@ returns-2 c =
     (cleared-after r 22 (w .result .count) (q .result) (q .last .0) (q .last .1 .0) (q .ensures))
 
 read-run-requires-2 : tie.Need-read-run-requires-2
-read-run-requires-2 c κs = search needs
+read-run-requires-2 c κs =
+    let r = a-stream (c .before .before .before .before .before) in
+    resized _ _ _ _ (entry r .pre) (r .read-run .kept .0) (r .read-run .kept .1 .0)
 
 same-length-7 : tie.Need-same-length-7
 same-length-7 c = search needs

@@ -11,6 +11,7 @@ use Rattle.fpc_run.specs.Calls.{Stand}
 use Rattle.fpc_stream.specs.Stream.{stream}
 use Rattle.fpc.proofs.Delivery.{cleared, row-22, row-0}
 use Rattle.fpc_stream.proofs.Lengths.{stream-le}
+use Rattle.fpc_stream.proofs.Rows.{resized}
 use Rattle.fpc.proofs.write_measured.Statement.{statement}
 use Rattle.fpc.proofs.write_measured.Tie as tie
 
@@ -79,7 +80,9 @@ returns c =
     (q .ensures))
 
 write-run-requires-2 : tie.Need-write-run-requires-2
-write-run-requires-2 c κs = search needs
+write-run-requires-2 c κs =
+    let r = fitting (c .before .before .before) in
+    (resized _ _ _ _ (entry r .pre .0) (r .write-run .kept .0) (r .write-run .kept .1 .0), entry r .pre .1)
 
 cast-t25 : tie.Need-cast-t25
 cast-t25 c =

@@ -1,8 +1,10 @@
--- `fpc_step::advance` meets its contract: the library's wrapping difference is `minus`, and a store keeps the length. Assumes nothing.
-use mathlib.Core.Path.{_≡_, refl}
-use Prim.Native.Nat.{ℕ, _+_, _%_, _^_, _<_}
+-- `fpc_step::advance` meets its contract: the library's wrapping difference is `minus`, a store keeps the length, and a mask by a power of two less one is a
+-- remainder. Assumes nothing.
+use mathlib.Core.Path.{_≡_}
+use Prim.Native.Nat.{ℕ, _+_, _-_, _%_, _^_, _<_}
 use native.Mathlib.Omega.{arith}
-use lib.ListN.{length-set}
+use lib.Bits.{bitAnd, and-mask}
+use lib.ListN.{length, length-set}
 use borrow.Author.Needs.{needs}
 use Rattle.fpc_stream.specs.Predictors.{fcmHash, dfcmHash}
 use Rattle.words.specs.Word.{minus}
@@ -12,6 +14,9 @@ use Rattle.fpc_step.proofs.advance.Tie as tie
 wraps : (r v last : ℕ) → r < 2 ^ 64 → v < 2 ^ 64 → last < 2 ^ 64 → (r + last) % 2 ^ 64 ≡ v → r ≡ minus 64 v last
 unfolding minus
 wraps r v last hr hv hl e = omega arith
+
+masked : (n k : ℕ) → n ≡ 2 ^ k → (x : ℕ) → bitAnd x (n - 1) ≡ x % n
+masked n k e x = rw e (and-mask x k)
 
 wrapping-sub-u64-requires : tie.Need-wrapping-sub-u64-requires
 wrapping-sub-u64-requires c κs = search needs
@@ -28,17 +33,14 @@ mul-d c = search needs
 slice-write-d : tie.Need-slice-write-d
 slice-write-d c = search needs
 
-mul-t8 : tie.Need-mul-t8
-mul-t8 c = search needs
+sub-mask : tie.Need-sub-mask
+sub-mask c = search needs
 
-rem-t15 : tie.Need-rem-t15
-rem-t15 c = simp length-set (omega arith)
+mul-t9 : tie.Need-mul-t9
+mul-t9 c = search needs
 
 mul-t16 : tie.Need-mul-t16
 mul-t16 c = search needs
-
-rem-t21 : tie.Need-rem-t21
-rem-t21 c = simp length-set (omega arith)
 
 same-length : tie.Need-same-length
 same-length c = search needs
@@ -49,10 +51,12 @@ same-length-2 c = search needs
 returns : tie.Need-returns
 unfolding fcmHash dfcmHash
 returns c =
-    let a = c .before .before .before .args in
+    let s = c .before .before .before in
+    let a = s .args in
     let t = c .wrapping-sub-u64 .result in
     let w : t ≡ minus 64 (a .v) (a .p .last) = wraps t (a .v) (a .p .last) (omega arith) (omega arith) (omega arith) (c .wrapping-sub-u64 .ensures) in
-    rw (length-set, w) refl
+    let m = masked (length (a .f .now)) (s .pre .tables .digits) (s .pre .tables .power) in
+    rw (length-set, w) (simp m)
 
 pub advance-spec : {M : Type 1} → statement M
 advance-spec =
@@ -63,10 +67,9 @@ advance-spec =
     slice-write-f
     mul-d
     slice-write-d
-    mul-t8
-    rem-t15
+    sub-mask
+    mul-t9
     mul-t16
-    rem-t21
     same-length
     same-length-2
     returns)

@@ -1,87 +1,59 @@
--- `fpc_step::slices::word` meets its contract. The invariant: `x` is the number of the bytes from `at + i` on. Assumes nothing.
+-- `fpc_step::slices::word` meets its contract: n bytes are what is left of eight modulo 256 ^ n. Assumes nothing.
 use mathlib.Core.Path.{_≡_, _∙_}
-use Prim.Native.Nat.{_+_, _-_, _^_, _≤_, _<_}
+use Prim.Native.Nat.{_+_, _-_}
 use native.Mathlib.Omega.{arith}
-use native.Mathlib.Nat.{sub-zero, add-zero}
-use lib.ListN.{take, drop}
+use lib.ListN.{take, drop, length-drop}
 use borrow.Author.Needs.{needs}
 use Rattle.fpc_stream.specs.Bytes.{fromBytes}
-use Rattle.fpc_stream.proofs.ByteLaws.{take-turn, taken-lt}
+use Rattle.fpc_stream.proofs.ByteLaws.{drop-below, from-first}
+use Rattle.fpc_stream.proofs.CodeLaws.{pow-mul}
 use Rattle.fpc_step.proofs.slices.word.Statement.{statement}
 use Rattle.fpc_step.proofs.slices.word.Tie as tie
 
-abbrev Inv-loop : tie.InvT-loop
-Inv-loop s at n i₀ x₀ i x = (i ≤ n) × (x ≡ fromBytes (take (n - i) (drop (at + i) s)))
+returns : tie.Need-returns
+returns c = let z : c .before .before .args .n ≡ 0 = c .if1 .taken in rw z
 
-abbrev μ-loop : tie.MeasureT-loop
-μ-loop s at n i₀ x₀ i x = i
+sub-if2 : tie.Need-sub-if2
+sub-if2 c = search needs
 
--- the entry, seen from the loop's head
-abbrev entry : tie.At-loop Inv-loop μ-loop → tie.Start Inv-loop μ-loop
-entry c = c .before .before
+by-bytes-requires : tie.Need-by-bytes-requires
+by-bytes-requires c κs = search needs
 
--- what was read so far leaves room for one byte more
-small : (c : tie.In-loop Inv-loop μ-loop) → c .before .loop .x < 2 ^ 56
-small c =
-    let s = entry (c .before) in
-    let a = s .args in
-    let l = c .before .loop in
-    taken-lt (a .s .now) (a .at) (a .n) (l .i) (l .x) (c .loop-test .taken) (l .inv .0) (s .pre .0) (l .inv .1) (s .pre .1)
-    (λ j. c .before .before .shared-slice-known .given j .fits)
+returns-2 : tie.Need-returns-2
+returns-2 c = search needs
 
-loop-holds : tie.Need-loop-holds Inv-loop μ-loop
-loop-holds c = let z : c .before .args .n - c .before .args .n ≡ 0 = omega arith in (omega arith, rw z)
+mul-low : tie.Need-mul-low
+mul-low c = search needs
 
-sub-i : tie.Need-sub-i Inv-loop μ-loop
-sub-i c = omega arith
+cast-low : tie.Need-cast-low
+cast-low c = search needs
 
-mul-x : tie.Need-mul-x Inv-loop μ-loop
-mul-x c = omega (arith, small c)
+eight-requires : tie.Need-eight-requires
+eight-requires c κs = search needs
 
-add-wide : tie.Need-add-wide Inv-loop μ-loop
-add-wide c = omega arith
+low-requires : tie.Need-low-requires
+low-requires c κs = search needs
 
-shared-slice-read-wide : tie.Need-shared-slice-read-wide Inv-loop μ-loop
-shared-slice-read-wide c = omega arith
-
-wide-requires : tie.Need-wide-requires Inv-loop μ-loop
-wide-requires c κs = search needs
-
-add-x : tie.Need-add-x Inv-loop μ-loop
-add-x c =
-    let t = c .before .before in
-    omega (arith, c .wide .ensures, c .before .shared-slice-known2 .given (entry (t .before) .args .at + (t .before .loop .i - 1)), small t)
-
-loop-less : tie.Need-loop-less Inv-loop μ-loop
-loop-less c = omega arith
-
-loop-again : tie.Need-loop-again Inv-loop μ-loop
-loop-again c =
-    let t = c .before .before in
-    let l = t .before .loop in
-    let s = entry (t .before) in
-    let a = s .args in
-    (omega arith, rw (c .wide .ensures) (take-turn (a .s .now) (a .at) (a .n) (l .i) (l .x) (t .loop-test .taken) (l .inv .0) (s .pre .0) (l .inv .1)))
-
-returns : tie.Need-returns Inv-loop μ-loop
-returns c =
-    let l = c .before .loop in
-    let z : l .i ≡ 0 = omega arith in
-    l .inv .1 ∙ rw (z, sub-zero, add-zero)
+returns-3 : tie.Need-returns-3
+returns-3 c =
+    let k = c .before .before .before .before in
+    let a = k .before .args in
+    let l = drop (a .at) (a .s .now) in
+    let e : a .n + (8 - a .n) ≡ 8 = omega arith in
+    let x : c .before .eight .result ≡ fromBytes (take (a .n + (8 - a .n)) l) = rw e (c .before .eight .ensures) in
+    let b = drop-below 256 (a .at) (a .s .now) (λ j. k .shared-slice-known .given j .fits) in
+    c .low .ensures .0 ∙ rw (pow-mul 8 (a .n), x) (from-first (a .n) (8 - a .n) l (omega (arith, length-drop (a .at) (a .s .now))) b)
 
 pub word-spec : {M : Type 1} → statement M
 word-spec =
     tie.close
     (tie.spec
-    Inv-loop
-    μ-loop
-    loop-holds
-    sub-i
-    mul-x
-    add-wide
-    shared-slice-read-wide
-    wide-requires
-    add-x
-    loop-less
-    loop-again
-    returns)
+    returns
+    sub-if2
+    by-bytes-requires
+    returns-2
+    mul-low
+    cast-low
+    eight-requires
+    low-requires
+    returns-3)
