@@ -1,5 +1,6 @@
 -- The form's bits, then the planes, if there are any. Assumes nothing.
 use native.Mathlib.Nat.{le-trans}
+use Prim.Native.Nat.{_≤_}
 use native.Mathlib.Omega.{arith}
 use Rattle.bits.proofs.NumberLaws.{length-numberBits}
 use Rattle.encode.proofs.Writing.{with-planes, without-planes}
@@ -50,7 +51,8 @@ returns c =
     let number = branch .before .before .before in
     let made = number .before .before .before .before in
     let a = made .before .before .before .before .before .args in
-    let short = omega (arith, made .form-of .ensures .short, made .before .before .before .before .before .pre .6) in
+    let short : made .form-of .result .bits ≤ a .width =
+    omega (arith, made .form-of .ensures .short, made .before .before .before .before .before .pre .6) in
     with-planes (a .width) (made .form-of .ensures) short (branch .if1 .taken) (number .put-number .ensures .0) (put .put-integers .ensures)
 
 same-length-4 : tie.Need-same-length-4
