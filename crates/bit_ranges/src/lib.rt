@@ -19,7 +19,7 @@ pub fn copy_bits(from: &[u8], start: usize, count: usize, buf: &mut [u8], out: C
     let mut i = 0;
     while i < count {
         let m = bits::piece(next.at, count - i);
-        let v = bits::get_bits(from, start + i, m);
+        let v = bit_reader::get_bits(from, start + i, m);
         next = bits::put_part(buf, next, v, m);
         i += m;
     }

@@ -47,7 +47,7 @@ fn read_coefficients(
 {
     if exact {
         let head = count_bits(size);
-        let count = bits::get_number(buf, at, head) + 1;
+        let count = bit_reader::get_number(buf, at, head) + 1;
         let read = plane_reader::read_planes(size, buf, at + head, end, us, count);
         BlockRead {
             padded: verify::ends(size, count, us, buf, read, end),
@@ -102,7 +102,7 @@ fn read_multiples(
         × (r .whole ≡ wholeCoefficients (formatOf size) true (4 ^ d) p (drop (fieldBits (formatOf size)) (slice at end (bitsOf (now (buf .entry)))))) ⌝ }
 {
     let head = field_bits(size);
-    let e = bits::get_number(buf, at, head);
+    let e = bit_reader::get_number(buf, at, head);
     let read = read_integers(size, true, d, p, buf, at + head, end, ints, words);
     copy(words, ints);
     change_all(size, Change::ToPattern(e), words);
@@ -154,14 +154,14 @@ fn read_exact_floats(
         × (r .padded ≡ paddedFloats (formatOf size) d p (slice at end (bitsOf (now (buf .entry)))))
         × (r .whole ≡ wholeExactFloats (formatOf size) d p (slice at end (bitsOf (now (buf .entry))))) ⌝ }
 {
-    if !bits::get(buf, at) {
+    if !bit_reader::get(buf, at) {
         clear(words);
         return BlockRead {
-            padded: bits::no_ones(buf, at + 1, end),
+            padded: bit_reader::no_ones(buf, at + 1, end),
             whole: 0,
         };
     }
-    if bits::get(buf, at + 1) {
+    if bit_reader::get(buf, at + 1) {
         read_flipped(size, d, p, buf, at + 2, end, cs, words)
     } else {
         read_multiples(size, d, p, buf, at + 2, end, cs, words)
@@ -186,7 +186,7 @@ fn read_lossy_floats(
     ensures { λ r. ⌜ (now (words .exit) ≡ readTo (formatOf size) true false d p lowest (slice at end (bitsOf (now (buf .entry)))))
         × (r ≡ wholeTo (formatOf size) true false d p lowest (slice at end (bitsOf (now (buf .entry))))) ⌝ }
 {
-    if bits::get(buf, at) {
+    if bit_reader::get(buf, at) {
         read_scaled(size, d, p, lowest, buf, at + 1, end, cs, words)
     } else {
         clear(words);
@@ -212,7 +212,7 @@ fn read_scaled(
         × (r ≡ wholeScaled (formatOf size) d p lowest (slice at end (bitsOf (now (buf .entry))))) ⌝ }
 {
     let head = field_bits(size);
-    let e = bits::get_number(buf, at, head);
+    let e = bit_reader::get_number(buf, at, head);
     let k = planes_at(size, d, p, lowest, e);
     let read = read_integers(size, false, d, k, buf, at + head, end, cs, words);
     change_all(size, Change::ToPattern(e), words);

@@ -39,7 +39,7 @@ pub fn ends(size: u32, p: u32, us: &[u64], buf: &[u8], read: Planes, end: usize)
         return false;
     }
     if smallest(size, p, us) {
-        bits::no_ones(buf, read.at, end)
+        bit_reader::no_ones(buf, read.at, end)
     } else {
         false
     }

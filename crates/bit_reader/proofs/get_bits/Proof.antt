@@ -1,14 +1,14 @@
 -- The bits of one byte, and those of the next above them. Assumes nothing.
 use Rattle.bits.proofs.StreamLaws.{length-bitsOf, number-lt, number-parts}
 use Rattle.bits.specs.Stream.{bitsOf}
 use lib.Pow.{pow-mono}
 use native.Mathlib.Nat.{lt-of-lt-of-le}
 use native.Mathlib.Omega.{arith}
 use Prim.Native.Nat.{_+_, _-_}
 use mathlib.Core.Path.{_≡_}
 use borrow.Author.Needs.{needs}
-use Rattle.bits.proofs.get_bits.Statement.{statement}
-use Rattle.bits.proofs.get_bits.Tie as tie
+use Rattle.bit_reader.proofs.get_bits.Statement.{statement}
+use Rattle.bit_reader.proofs.get_bits.Tie as tie
 
 sub-least : tie.Need-sub-least
 sub-least c = search needs

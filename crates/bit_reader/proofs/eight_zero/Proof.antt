@@ -1,9 +1,9 @@
 -- The `or` of eight bytes is 0 where none of them has a one. Assumes nothing.
-use Rattle.bits.proofs.ZeroLaws.{ors-none}
+use Rattle.bit_reader.proofs.ZeroLaws.{ors-none}
 use native.Mathlib.Omega.{arith}
 use borrow.Author.Needs.{needs}
-use Rattle.bits.proofs.eight_zero.Statement.{statement}
-use Rattle.bits.proofs.eight_zero.Tie as tie
+use Rattle.bit_reader.proofs.eight_zero.Statement.{statement}
+use Rattle.bit_reader.proofs.eight_zero.Tie as tie
 
 shared-slice-read-result : tie.Need-shared-slice-read-result
 shared-slice-read-result c = search needs

@@ -1,7 +1,7 @@
 -- The byte, moved down. Assumes nothing.
 use borrow.Author.Needs.{needs}
-use Rattle.bits.proofs.byte_from.Statement.{statement}
-use Rattle.bits.proofs.byte_from.Tie as tie
+use Rattle.bit_reader.proofs.byte_from.Statement.{statement}
+use Rattle.bit_reader.proofs.byte_from.Tie as tie
 
 shared-slice-read-byte-value : tie.Need-shared-slice-read-byte-value
 shared-slice-read-byte-value c = search needs

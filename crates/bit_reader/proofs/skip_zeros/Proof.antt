@@ -1,15 +1,15 @@
 -- The invariant: no bit passed is a one, so the question of all is that of the rest. Assumes nothing.
-use Rattle.bits.proofs.ZeroLaws.{none-skip}
+use Rattle.bit_reader.proofs.ZeroLaws.{none-skip}
 use Rattle.bits.specs.Stream.{bitsOf}
 use Rattle.bits.specs.Calls.{noOnes}
 use lib.Seq.{slice}
 use native.Mathlib.Omega.{arith}
 use Prim.Native.Nat.{_-_, _*_, _/_, _%_, _≤_, _<_}
 use mathlib.Core.Path.{_≡_, refl, sym, _∙_}
 use borrow.Author.Tests.{not-false}
 use borrow.Author.Needs.{needs}
-use Rattle.bits.proofs.skip_zeros.Statement.{statement}
-use Rattle.bits.proofs.skip_zeros.Tie as tie
+use Rattle.bit_reader.proofs.skip_zeros.Statement.{statement}
+use Rattle.bit_reader.proofs.skip_zeros.Tie as tie
 
 abbrev Inv-loop : tie.InvT-loop
 Inv-loop buf at end i₀ i = (i ≤ end) × (i < end → i % 8 ≡ 0) × (noOnes (slice at end (bitsOf buf)) ≡ noOnes (slice i end (bitsOf buf)))

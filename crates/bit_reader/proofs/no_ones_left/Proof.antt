@@ -1,15 +1,15 @@
 -- The invariant: no bit passed is a one, so the question of all is that of the rest. Assumes nothing.
 use Rattle.bits.proofs.StreamLaws.{slice-none}
-use Rattle.bits.proofs.ZeroLaws.{none-next, none-here}
+use Rattle.bit_reader.proofs.ZeroLaws.{none-next, none-here}
 use Rattle.bits.specs.Stream.{bitsOf}
 use Rattle.bits.specs.Calls.{noOnes}
 use lib.Seq.{slice}
 use native.Mathlib.Omega.{arith}
 use Prim.Native.Nat.{_-_, _≤_}
 use mathlib.Core.Path.{_≡_, refl, sym, _∙_}
 use borrow.Author.Needs.{needs}
-use Rattle.bits.proofs.no_ones_left.Statement.{statement}
-use Rattle.bits.proofs.no_ones_left.Tie as tie
+use Rattle.bit_reader.proofs.no_ones_left.Statement.{statement}
+use Rattle.bit_reader.proofs.no_ones_left.Tie as tie
 
 abbrev Inv-loop : tie.InvT-loop
 Inv-loop buf at end i₀ i = (i ≤ end) × (noOnes (slice at end (bitsOf buf)) ≡ noOnes (slice i end (bitsOf buf)))

@@ -8,8 +8,8 @@ use native.Mathlib.Omega.{arith}
 use Prim.Native.Nat.{ℕ, _+_, _-_, _≤_}
 use mathlib.Core.Path.{_≡_, sym, ap, _∙_}
 use borrow.Author.Needs.{needs}
-use Rattle.bits.proofs.get_number.Statement.{statement}
-use Rattle.bits.proofs.get_number.Tie as tie
+use Rattle.bit_reader.proofs.get_number.Statement.{statement}
+use Rattle.bit_reader.proofs.get_number.Tie as tie
 
 abbrev Inv-loop : tie.InvT-loop
 Inv-loop buf at count i₀ n₀ i n = (i ≤ count) × (n ≡ numberOf (slice at (at + i) (bitsOf buf)))

@@ -1,9 +1,9 @@
 -- The byte's bit is the stream's, by `stream-bit`. Assumes nothing.
 use Rattle.bits.proofs.StreamLaws.{stream-bit}
 use mathlib.Core.Path.{sym}
 use borrow.Author.Needs.{needs}
-use Rattle.bits.proofs.get.Statement.{statement}
-use Rattle.bits.proofs.get.Tie as tie
+use Rattle.bit_reader.proofs.get.Statement.{statement}
+use Rattle.bit_reader.proofs.get.Tie as tie
 
 byte-from-requires : tie.Need-byte-from-requires
 byte-from-requires c κs = search needs

@@ -1,12 +1,12 @@
 -- The bits of one byte; none where there are no bits. Assumes nothing.
 use Rattle.bits.proofs.StreamLaws.{part-number, slice-none}
 use Rattle.bits.specs.Stream.{numberOf, bitsOf}
 use native.Mathlib.Omega.{arith}
 use Prim.Native.Nat.{_+_}
 use mathlib.Core.Path.{sym, ap}
 use borrow.Author.Needs.{needs}
-use Rattle.bits.proofs.get_part.Statement.{statement}
-use Rattle.bits.proofs.get_part.Tie as tie
+use Rattle.bit_reader.proofs.get_part.Statement.{statement}
+use Rattle.bit_reader.proofs.get_part.Tie as tie
 
 returns : tie.Need-returns
 returns c =
