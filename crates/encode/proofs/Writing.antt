@@ -1,9 +1,9 @@
 -- The forms of a block, as the writer goes through them.
 use mathlib.Core.Path.{_≡_, refl, sym}
-use mathlib.Core.Bool.{Bool, true, false, cond}
+use mathlib.Core.Bool.{Bool, true, false, cond, true≢false}
 use mathlib.Core.List.{List, [], _∷_, map, append-nil}
-use Prim.Native.Nat.{ℕ, suc, _+_, _-_, _*_, _/_, _%_, _≤_}
-use native.Mathlib.Nat.{le-trans, mul-le-mul-left, mul-le-mul-right}
+use Prim.Native.Nat.{ℕ, suc, _+_, _-_, _*_, _/_, _%_, _^_, _≤_}
+use native.Mathlib.Nat.{zero-add, le-trans, mul-le-mul-left, mul-le-mul-right}
 use native.Mathlib.Numerals.{add-one}
 use native.Mathlib.Omega.{arith}
 use borrow.Author.Tests.{ne-eqb}
@@ -12,20 +12,22 @@ use lib.Ieee.{Format}
 use lib.ListN.{length}
 use Rattle.bits.specs.declared.Cursor.{Cursor}
 use Rattle.bits.specs.Stream.{numberBits}
-use Rattle.bits.specs.Calls.{Written}
+use Rattle.bits.specs.Calls.{Written, Reached}
 use Rattle.bits.proofs.NumberLaws.{length-numberBits}
 use Rattle.bits.proofs.WriteLaws.{written-append}
-use Rattle.bits.proofs.ReachLaws.{reached-all, reached-append}
+use Rattle.bits.proofs.ReachLaws.{reached-all, reached-append, reached-whole}
 use Rattle.words.specs.Word.{flip}
 use Rattle.floats.specs.Pattern.{wordSize, fieldBits}
 use Rattle.floats.specs.Integer.{toInteger}
+use Rattle.floats.specs.Calls.{formatOf}
 use Rattle.float_blocks.specs.Block.{blockExponent, noMagnitude, allZero, allWhole}
 use Rattle.codec.specs.Code.{exactIntegers, exactFloats}
-use Rattle.codec.specs.Depth.{wholeIntegers, wholeWritten}
+use Rattle.codec.specs.Head.{exactPlanes}
+use Rattle.codec.specs.Depth.{wholeOf, wholeIntegers, wholeWritten}
 use Rattle.codec.specs.Lowest.{planesAt, planesCoded}
-use Rattle.codec.specs.Calls.{integersCode, uncutFloats, uncutCode, uncutTo, wholeAt, Formed}
-use Rattle.encode.specs.Calls.{BlockCoded}
-use Rattle.planes.specs.Coder.{planesCode}
+use Rattle.codec.specs.Calls.{coefficientsCode, integersCode, uncutFloats, uncutCode, uncutTo, wholeAt, Formed}
+use Rattle.encode.specs.Calls.{BlockCoded, Planned}
+use Rattle.planes.specs.Coder.{planesCode, planesWithin}
 use Rattle.planes.proofs.Bound.{bound}
 use Rattle.codec.proofs.Depth.{written-most}
 use Rattle.codec.proofs.Lowest.{planes-at-most}
@@ -144,7 +146,31 @@ module _ {f : Format} {float exact planes : Bool} {d p lowest k : ℕ} {ws ws′
   without-planes e r₁ = (rw (form .code, e, append-nil (numberBits bits head)) (coded-whole r₁), rw (form .whole width, e))
 
 -- no code of planes comes near 2 ^ 21 bits
-pub short : (w p : ℕ) (us : List ℕ) → 1 ≤ length us → length us ≤ 256 → p ≤ 64 → length (planesCode w p us) ≤ 2097152
+short : (w p : ℕ) (us : List ℕ) → 1 ≤ length us → length us ≤ 256 → p ≤ 64 → length (planesCode w p us) ≤ 2097152
 short w p us h k l =
     let most : length us * p ≤ 256 * 64 = le-trans (mul-le-mul-left (length us) l) (mul-le-mul-right 64 k) in
     omega (arith, bound w p us h)
+
+-- coefficients by a plan: the number in front of their planes, then the planes
+module _ {size p budget head bits k room : ℕ} {us : List ℕ} where
+  pub plan-room : {at at′ limit : ℕ} (exact : Bool) → Planned size exact p budget us head bits k room → at ≤ at′ → limit ≤ 2 ^ 21
+      → (exact ≡ false → limit ≤ at + budget) → limit ≤ at′ + room
+  plan-room true plan h few l = omega (arith, plan .needed refl .3)
+  plan-room false plan h few l = omega (arith, plan .given refl .2, l refl)
+
+  module _ {before mid after : List ℕ} {limit : ℕ} {out out₁ out₂ : Cursor} (own : wordSize (formatOf size) ≡ size)
+      (first : Written before mid out limit (numberBits bits head) out₁) (then : Reached mid after out₁ limit room (planesCode size k us) out₂) where
+    pub plan-needed : {exact : Bool} → Planned size exact p budget us head bits k room → exact ≡ true → size ≤ 64 → 1 ≤ length us → length us ≤ 256
+        → BlockCoded before after out limit budget exact (coefficientsCode (formatOf size) exact p us) out₂ × (k ≡ wholeOf (formatOf size) exact p budget us)
+    unfolding exactPlanes
+    plan-needed plan e h l m =
+        let n = plan .needed e in
+        let all = reached-whole then (omega (arith, n .3, plan .few, short size k us l m (omega (arith, plan .few)))) in
+        rw (e, own, ← (n .2), ← (n .0), ← (n .1)) (coded-whole (written-append first all), refl)
+
+    pub plan-given : {exact : Bool} {whole : ℕ} → Planned size exact p budget us head bits k room → exact ≡ false → whole ≡ planesWithin size k room us
+        → BlockCoded before after out limit budget exact (coefficientsCode (formatOf size) exact p us) out₂
+        × (whole ≡ wholeOf (formatOf size) exact p budget us)
+    plan-given plan e count =
+        let g = plan .given e in
+        rw (e, own, ← (g .1), ← (g .2)) (record { reached = rw zero-add at (reached-append (rw (g .0) at first) then); whole = λ x. absurd (true≢false (sym x)) }, count)

@@ -4,15 +4,13 @@ ghost use mathlib.Core.Path.{_≡_};
 ghost use mathlib.Core.Bool.{true, false};
 ghost use Prim.Native.Nat.{ℕ, _+_, _*_, _^_, _≤_, _<_};
 ghost use lib.ListN.{length};
-ghost use Rattle.bits.specs.Calls.{Written};
 ghost use Rattle.words.specs.Calls.{Size};
 ghost use Rattle.floats.specs.Calls.{formatOf};
 ghost use Rattle.float_blocks.specs.Block.{anySpecial};
 ghost use Rattle.plane_writer.specs.Calls.{OnesFrom};
-ghost use Rattle.codec.specs.Head.{planesNeeded, exactPlanes};
 ghost use Rattle.codec.specs.Depth.{wholeOf, wholeIntegers};
 ghost use Rattle.codec.specs.Calls.{Shape, coefficientsCode, integersCode, uncutTo, wholeAt, Formed};
-ghost use Rattle.encode.specs.Calls.{BlockCoded};
+ghost use Rattle.encode.specs.Calls.{BlockCoded, Planned};
 use bits::Cursor;
 use codec::change::Change;
 use codec::change::change_all;
@@ -25,26 +23,35 @@ use plane_writer::Coded;
 // A budget that no exact code reaches.
 const NO_BUDGET: usize = 1 << 21;
 
-// The bits of p - 1, then p planes.
-fn put_exact_planes(
-    size: u32,
-    us: &[u64],
-    ors: &[u64],
-    buf: &mut [u8],
-    out: Cursor,
-    limit: usize,
-) -> Coded
-    requires { ⌜ Size size × OnesFrom (now ors) (now us) × (1 ≤ length (now us)) × (length (now us) ≤ 256) × (limit ≤ 8 * length (now buf))
-        × (out .at < 2 ^ 30) × (out .writes ≤ out .at) × (limit ≤ 2 ^ 21) ⌝ }
-    ensures { λ r. ⌜ Written (now (buf .entry)) (now (buf .exit)) out limit
-        (exactPlanes (formatOf size) (now (us .entry))) (r .out) × (r .whole ≡ planesNeeded size (now (us .entry))) ⌝ }
+// How coefficients are coded, by mode: what stands in front of their planes, as a number of so many bits, how many planes there are, and their budget.
+struct Plan {
+    pub head: u32,
+    pub bits: usize,
+    pub p: u32,
+    pub budget: usize,
+}
+
+// In exact mode the bits of p - 1 and as many planes as are needed, in lossy mode p planes.
+fn plan_of(size: u32, exact: bool, p: u32, us: &[u64], budget: usize) -> Plan
+    requires { ⌜ Size size × (p ≤ size) ⌝ }
+    ensures { λ r. ⌜ Planned size exact p budget (now (us .entry)) (r .head) (r .bits) (r .p) (r .budget) ⌝ }
 {
-    let p = planes_needed(size, us);
-    let next = bits::put_number(buf, out, limit, p - 1, count_bits(size));
-    let c = plane_writer::put_planes(size, us, ors, p, buf, next, limit, NO_BUDGET);
-    let end = c.out;
-    // Nothing is cut, so all p planes are whole, whatever the coder counts within a budget.
-    Coded { out: end, whole: p }
+    if exact {
+        let k = planes_needed(size, us);
+        Plan {
+            head: k - 1,
+            bits: count_bits(size),
+            p: k,
+            budget: NO_BUDGET,
+        }
+    } else {
+        Plan {
+            head: 0,
+            bits: 0,
+            p,
+            budget,
+        }
+    }
 }
 
 // Coefficients, by mode.
@@ -65,10 +72,16 @@ fn put_coefficients(
         (coefficientsCode (formatOf size) exact p (now (us .entry))) (r .out)
         × (r .whole ≡ wholeOf (formatOf size) exact p budget (now (us .entry))) ⌝ }
 {
-    if exact {
-        put_exact_planes(size, us, ors, buf, out, limit)
-    } else {
-        plane_writer::put_planes(size, us, ors, p, buf, out, limit, budget)
+    let plan = plan_of(size, exact, p, us, budget);
+    let next = bits::put_number(buf, out, limit, plan.head, plan.bits);
+    let k = plan.p;
+    let c = plane_writer::put_planes(size, us, ors, k, buf, next, limit, plan.budget);
+    let end = c.out;
+    let whole = c.whole;
+    // Nothing of an exact code is cut, so all of its planes are whole, whatever the coder counts within a budget.
+    Coded {
+        out: end,
+        whole: if exact { k } else { whole },
     }
 }
 
