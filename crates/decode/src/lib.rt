@@ -1,33 +1,71 @@
 // A block, read from the bits of its slot, whatever they are, and how many of its planes were whole. In exact mode a reader also tells whether the bits are
 // the padded code of what it reads; a lossy slot may hold any bits.
 ghost use mathlib.Core.Path.{_≡_};
-ghost use mathlib.Core.Bool.{true, false, not, _||_};
+ghost use mathlib.Core.Bool.{true, false, not, _&&_, _||_};
 ghost use mathlib.Core.List.{map};
-ghost use Prim.Native.Nat.{_+_, _^_, _≤_};
-ghost use lib.ListN.{length, drop};
+ghost use Prim.Native.Nat.{ℕ, _+_, _*_, _^_, _≤_, _<_};
+ghost use lib.Dec.{eqb};
+ghost use lib.ListN.{length};
 ghost use lib.Seq.{slice};
 ghost use Rattle.bits.specs.Stream.{bitsOf};
-ghost use Rattle.words.specs.Word.{flip};
+ghost use Rattle.bits.specs.Calls.{noOnes};
 ghost use Rattle.words.specs.Calls.{Size};
-ghost use Rattle.floats.specs.Pattern.{wordSize, fieldBits};
+ghost use Rattle.floats.specs.Pattern.{fieldBits};
 ghost use Rattle.floats.specs.Calls.{formatOf};
-ghost use Rattle.codec.specs.Calls.{Shape, Range, scaledTo, wholeScaled, readTo, wholeTo};
+ghost use Rattle.codec.specs.Calls.{Shape, Range, Ready, changed, readTo, wholeTo};
 ghost use Rattle.codec.specs.Head.{countBits};
-ghost use Rattle.codec.specs.Read.{readCoefficients, readIntegers, scaledBy, readExactFloats};
-ghost use Rattle.codec.specs.Depth.{wholeCoefficients, wholeExactFloats};
-ghost use Rattle.codec.specs.Calls.Padded.{paddedPlanes, paddedMultiples, paddedFlipped, paddedFloats, paddedBlock};
+ghost use Rattle.codec.specs.Read.{readCoefficients, readIntegers};
+ghost use Rattle.codec.specs.Depth.{wholeCoefficients};
+ghost use Rattle.codec.specs.Calls.Padded.{smallest, paddedPlanes, paddedBlock};
+ghost use Rattle.decode.specs.Calls.{Counted, Headed, codedSo};
 use codec::change::Change;
 use codec::change::change_all;
 use codec::change::copy;
 use codec::head::count_bits;
 use codec::head::field_bits;
 use codec::head::planes_at;
+use plane_reader::Planes;
 use plane_reader::clear;
 
 // What the reading of a block tells beside its words: whether a reader takes these bits, and how many planes were whole.
 pub struct BlockRead {
     pub padded: bool,
     pub whole: u32,
+}
+
+// What tells the planes of coefficients: in how many bits, and how many planes there are.
+struct Count {
+    pub bits: usize,
+    pub p: u32,
+}
+
+// In exact mode the count that the bits begin with, in lossy mode p.
+fn count_of(size: u32, exact: bool, p: u32, buf: &[u8], at: usize) -> Count
+    requires { ⌜ Size size × (p ≤ size) × (at + countBits (formatOf size) ≤ 8 * length (now buf)) × (at < 2 ^ 32) ⌝ }
+    ensures { λ r. ⌜ Counted size exact p at (bitsOf (now (buf .entry))) (r .bits) (r .p) ⌝ }
+{
+    if exact {
+        let head = count_bits(size);
+        Count {
+            bits: head,
+            p: bit_reader::get_number(buf, at, head) + 1,
+        }
+    } else {
+        Count { bits: 0, p }
+    }
+}
+
+// Whether a reader takes what it read of coefficients: in lossy mode anything.
+fn taken(size: u32, exact: bool, p: u32, us: &[u64], buf: &[u8], read: Planes, end: usize) -> bool
+    requires { ⌜ (size ≤ 64) × (exact ≡ true → 1 ≤ p) × (p ≤ size) × (read .at ≤ end) × (end ≤ 8 * length (now buf)) × (end < 2 ^ 32) ⌝ }
+    ensures { λ r. ⌜ r ≡ (not exact || (eqb (read .whole) p
+        && (smallest size p (now (us .entry)) && noOnes (slice (read .at) end (bitsOf (now (buf .entry))))))) ⌝ }
+{
+    if exact {
+        verify::ends(size, p, us, buf, read, end)
+    } else {
+        true
+    }
 }
 
 // Coefficients, by mode: p planes, or as many as the head says.
@@ -45,20 +83,12 @@ fn read_coefficients(
         × (r .padded ≡ (not exact || paddedPlanes (formatOf size) (length (now (us .entry))) (slice at end (bitsOf (now (buf .entry))))))
         × (r .whole ≡ wholeCoefficients (formatOf size) exact (length (now (us .entry))) p (slice at end (bitsOf (now (buf .entry))))) ⌝ }
 {
-    if exact {
-        let head = count_bits(size);
-        let count = bit_reader::get_number(buf, at, head) + 1;
-        let read = plane_reader::read_planes(size, buf, at + head, end, us, count);
-        BlockRead {
-            padded: verify::ends(size, count, us, buf, read, end),
-            whole: read.whole,
-        }
-    } else {
-        let read = plane_reader::read_planes(size, buf, at, end, us, p);
-        BlockRead {
-            padded: true,
-            whole: read.whole,
-        }
+    let count = count_of(size, exact, p, buf, at);
+    let k = count.p;
+    let read = plane_reader::read_planes(size, buf, at + count.bits, end, us, k);
+    BlockRead {
+        padded: taken(size, exact, k, us, buf, read, end),
+        whole: read.whole,
     }
 }
 
@@ -84,139 +114,137 @@ fn read_integers(
     read
 }
 
-// e, then integers, which are kept in the other words, and whose patterns at e are the words; whether the bits are so coded.
-fn read_multiples(
-    size: u32,
-    d: u32,
-    p: u32,
-    buf: &[u8],
-    at: usize,
-    end: usize,
-    ints: &mut [u64],
-    words: &mut [u64],
-) -> BlockRead
-    requires { ⌜ Shape size d p (length (now words)) × (length (now ints) ≡ 4 ^ d)
-        × Range at (fieldBits (formatOf size) + countBits (formatOf size)) end (length (now buf)) ⌝ }
-    ensures { λ r. ⌜ (now (words .exit) ≡ scaledBy (formatOf size) (readIntegers (formatOf size) true d p) (slice at end (bitsOf (now (buf .entry)))))
-        × (r .padded ≡ paddedMultiples (formatOf size) d p (slice at end (bitsOf (now (buf .entry)))))
-        × (r .whole ≡ wholeCoefficients (formatOf size) true (4 ^ d) p (drop (fieldBits (formatOf size)) (slice at end (bitsOf (now (buf .entry)))))) ⌝ }
-{
-    let head = field_bits(size);
-    let e = bit_reader::get_number(buf, at, head);
-    let read = read_integers(size, true, d, p, buf, at + head, end, ints, words);
-    copy(words, ints);
-    change_all(size, Change::ToPattern(e), words);
-    BlockRead {
-        padded: verify::multiples(size, e, ints, words) & read.padded,
-        whole: read.whole,
-    }
+// What stands in front of a block's planes: its bits, whether planes follow, how many in lossy mode, and how their integers become words of floats.
+struct Head {
+    pub bits: usize,
+    pub planes: bool,
+    pub p: u32,
+    pub how: Change,
 }
 
-// Integers, which become their flips; whether the bits are so coded.
-fn read_flipped(
-    size: u32,
-    d: u32,
-    p: u32,
-    buf: &[u8],
-    at: usize,
-    end: usize,
-    cs: &mut [u64],
-    words: &mut [u64],
-) -> BlockRead
-    requires { ⌜ Shape size d p (length (now words)) × (length (now cs) ≡ 4 ^ d) × Range at (countBits (formatOf size)) end (length (now buf)) ⌝ }
-    ensures { λ r. ⌜ (now (words .exit) ≡ map (flip (wordSize (formatOf size)))
-        (readIntegers (formatOf size) true d p (slice at end (bitsOf (now (buf .entry))))))
-        × (r .padded ≡ paddedFlipped (formatOf size) d p (slice at end (bitsOf (now (buf .entry)))))
-        × (r .whole ≡ wholeCoefficients (formatOf size) true (4 ^ d) p (slice at end (bitsOf (now (buf .entry))))) ⌝ }
-{
-    let read = read_integers(size, true, d, p, buf, at, end, cs, words);
-    change_all(size, Change::Flip, words);
-    BlockRead {
-        padded: verify::others(size, words) & read.padded,
-        whole: read.whole,
-    }
-}
-
-// A block of float patterns in exact mode, by its first bits.
-fn read_exact_floats(
-    size: u32,
-    d: u32,
-    p: u32,
-    buf: &[u8],
-    at: usize,
-    end: usize,
-    cs: &mut [u64],
-    words: &mut [u64],
-) -> BlockRead
-    requires { ⌜ Shape size d p (length (now words)) × (length (now cs) ≡ 4 ^ d)
-        × Range at (2 + fieldBits (formatOf size) + countBits (formatOf size)) end (length (now buf)) ⌝ }
-    ensures { λ r. ⌜ (now (words .exit) ≡ readExactFloats (formatOf size) d p (slice at end (bitsOf (now (buf .entry)))))
-        × (r .padded ≡ paddedFloats (formatOf size) d p (slice at end (bitsOf (now (buf .entry)))))
-        × (r .whole ≡ wholeExactFloats (formatOf size) d p (slice at end (bitsOf (now (buf .entry))))) ⌝ }
+// The head of a block of float patterns in exact mode, by its first bits.
+fn exact_head(size: u32, p: u32, buf: &[u8], at: usize) -> Head
+    requires { ⌜ Size size × (at + 2 + fieldBits (formatOf size) ≤ 8 * length (now buf)) × (at + 2 < 2 ^ 32) ⌝ }
+    ensures { λ r. ⌜ ((d lowest end : ℕ) → at + 2 + fieldBits (formatOf size) ≤ end → end ≤ 8 * length (now (buf .entry))
+        → Headed size true true d p lowest (bitsOf (now (buf .entry))) at end (r .bits) (r .planes) (r .p) (r .how)) ⌝ }
 {
     if !bit_reader::get(buf, at) {
-        clear(words);
-        return BlockRead {
-            padded: bit_reader::no_ones(buf, at + 1, end),
-            whole: 0,
+        return Head {
+            bits: 1,
+            planes: false,
+            p,
+            how: Change::Flip,
         };
     }
     if bit_reader::get(buf, at + 1) {
-        read_flipped(size, d, p, buf, at + 2, end, cs, words)
-    } else {
-        read_multiples(size, d, p, buf, at + 2, end, cs, words)
+        return Head {
+            bits: 2,
+            planes: true,
+            p,
+            how: Change::Flip,
+        };
+    }
+    let field = field_bits(size);
+    let e = bit_reader::get_number(buf, at + 2, field);
+    Head {
+        bits: 2 + field,
+        planes: true,
+        p,
+        how: Change::ToPattern(e),
     }
 }
 
-// A block of float patterns in lossy mode, by its first bit; then e, and as many planes of integers, which become patterns at e, as the lowest exponent
-// leaves of p. How many were whole.
-fn read_lossy_floats(
+// And in lossy mode, with as many of p planes as the lowest exponent leaves.
+fn lossy_head(size: u32, d: u32, p: u32, lowest: u32, buf: &[u8], at: usize) -> Head
+    requires { ⌜ Size size × (at + 1 + fieldBits (formatOf size) ≤ 8 * length (now buf)) × (at + 1 < 2 ^ 32) ⌝ }
+    ensures { λ r. ⌜ ((end : ℕ) → at + 1 + fieldBits (formatOf size) ≤ end → end ≤ 8 * length (now (buf .entry))
+        → Headed size true false d p lowest (bitsOf (now (buf .entry))) at end (r .bits) (r .planes) (r .p) (r .how)) ⌝ }
+{
+    if !bit_reader::get(buf, at) {
+        return Head {
+            bits: 1,
+            planes: false,
+            p,
+            how: Change::Flip,
+        };
+    }
+    let field = field_bits(size);
+    let e = bit_reader::get_number(buf, at + 1, field);
+    Head {
+        bits: 1 + field,
+        planes: true,
+        p: planes_at(size, d, p, lowest, e),
+        how: Change::ToPattern(e),
+    }
+}
+
+// By kind and mode.
+fn head_of(
     size: u32,
+    float: bool,
+    exact: bool,
     d: u32,
     p: u32,
     lowest: u32,
     buf: &[u8],
     at: usize,
-    end: usize,
-    cs: &mut [u64],
-    words: &mut [u64],
-) -> u32
-    requires { ⌜ Shape size d p (length (now words)) × (length (now cs) ≡ 4 ^ d)
-        × Range at (1 + fieldBits (formatOf size) + countBits (formatOf size)) end (length (now buf)) ⌝ }
-    ensures { λ r. ⌜ (now (words .exit) ≡ readTo (formatOf size) true false d p lowest (slice at end (bitsOf (now (buf .entry)))))
-        × (r ≡ wholeTo (formatOf size) true false d p lowest (slice at end (bitsOf (now (buf .entry))))) ⌝ }
+) -> Head
+    requires { ⌜ Size size × (at + 2 + fieldBits (formatOf size) ≤ 8 * length (now buf)) × (at + 2 < 2 ^ 32) ⌝ }
+    ensures { λ r. ⌜ ((end : ℕ) → at + 2 + fieldBits (formatOf size) ≤ end → end ≤ 8 * length (now (buf .entry))
+        → Headed size float exact d p lowest (bitsOf (now (buf .entry))) at end (r .bits) (r .planes) (r .p) (r .how)) ⌝ }
 {
-    if bit_reader::get(buf, at) {
-        read_scaled(size, d, p, lowest, buf, at + 1, end, cs, words)
+    if !float {
+        return Head {
+            bits: 0,
+            planes: true,
+            p,
+            how: Change::Flip,
+        };
+    }
+    if exact {
+        exact_head(size, p, buf, at)
     } else {
-        clear(words);
-        0
+        lossy_head(size, d, p, lowest, buf, at)
     }
 }
 
-// e, then integers, which become patterns at e: a lossy block after its first bit. How many planes were whole.
-fn read_scaled(
-    size: u32,
-    d: u32,
-    p: u32,
-    lowest: u32,
-    buf: &[u8],
-    at: usize,
-    end: usize,
-    cs: &mut [u64],
-    words: &mut [u64],
-) -> u32
-    requires { ⌜ Shape size d p (length (now words)) × (length (now cs) ≡ 4 ^ d)
-        × Range at (fieldBits (formatOf size) + countBits (formatOf size)) end (length (now buf)) ⌝ }
-    ensures { λ r. ⌜ (now (words .exit) ≡ scaledTo (formatOf size) d p lowest (slice at end (bitsOf (now (buf .entry)))))
-        × (r ≡ wholeScaled (formatOf size) d p lowest (slice at end (bitsOf (now (buf .entry))))) ⌝ }
+// Whether words that were made of these integers are coded as such.
+fn coded_so(size: u32, how: Change, ints: &[u64], words: &[u64]) -> bool
+    requires { ⌜ Size size × (now words ≡ map (changed size how) (now ints)) ⌝ }
+    ensures { λ r. ⌜ r ≡ codedSo (formatOf size) how (now (ints .entry)) ⌝ }
 {
-    let head = field_bits(size);
-    let e = bit_reader::get_number(buf, at, head);
-    let k = planes_at(size, d, p, lowest, e);
-    let read = read_integers(size, false, d, k, buf, at + head, end, cs, words);
-    change_all(size, Change::ToPattern(e), words);
-    read.whole
+    match how {
+        Change::ToInteger(e) => false,
+        Change::ToPattern(e) => verify::multiples(size, e, ints, words),
+        Change::Flip => verify::others(size, words),
+    }
+}
+
+// Integers become words of floats; in exact mode they are kept in the other words. Whether a reader takes them: in lossy mode any.
+fn to_words(size: u32, exact: bool, how: Change, ints: &mut [u64], words: &mut [u64]) -> bool
+    requires { ⌜ Size size × (length (now ints) ≡ length (now words)) × Ready size how (now words) ⌝ }
+    ensures { λ r. ⌜ (now (words .exit) ≡ map (changed size how) (now (words .entry)))
+        × (r ≡ (not exact || codedSo (formatOf size) how (now (words .entry)))) ⌝ }
+{
+    if exact {
+        copy(words, ints);
+        change_all(size, how, words);
+        return coded_so(size, how, ints, words);
+    }
+    change_all(size, how, words);
+    true
+}
+
+// Whether a reader takes the bits after a first bit 0 of floats: in lossy mode any.
+fn zeros_follow(exact: bool, buf: &[u8], at: usize, end: usize) -> bool
+    requires { ⌜ (at ≤ end) × (end ≤ 8 * length (now buf)) × (end < 2 ^ 32) ⌝ }
+    ensures { λ r. ⌜ r ≡ (not exact || noOnes (slice at end (bitsOf (now (buf .entry))))) ⌝ }
+{
+    if exact {
+        bit_reader::no_ones(buf, at, end)
+    } else {
+        true
+    }
 }
 
 // The words of a block of dimension d, by kind and mode, from the bits of its slot: p planes if it is lossy, of floats those that the lowest exponent
@@ -240,15 +268,22 @@ pub fn read_block(
         × (r .padded ≡ (not exact || paddedBlock (formatOf size) float d p (slice at end (bitsOf (now (buf .entry))))))
         × (r .whole ≡ wholeTo (formatOf size) float exact d p lowest (slice at end (bitsOf (now (buf .entry))))) ⌝ }
 {
-    if !float {
-        return read_integers(size, exact, d, p, buf, at, end, cs, words);
+    let head = head_of(size, float, exact, d, p, lowest, buf, at);
+    if !head.planes {
+        clear(words);
+        return BlockRead {
+            padded: zeros_follow(exact, buf, at + 1, end),
+            whole: 0,
+        };
     }
-    if exact {
-        read_exact_floats(size, d, p, buf, at, end, cs, words)
-    } else {
-        BlockRead {
-            padded: true,
-            whole: read_lossy_floats(size, d, p, lowest, buf, at, end, cs, words),
-        }
+    let k = head.p;
+    let read = read_integers(size, exact, d, k, buf, at + head.bits, end, cs, words);
+    if !float {
+        return read;
+    }
+    let how = head.how;
+    BlockRead {
+        padded: to_words(size, exact, how, cs, words) & read.padded,
+        whole: read.whole,
     }
 }
