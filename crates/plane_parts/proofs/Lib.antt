@@ -1,2 +1,3 @@
 -- The laws of the parts of a plane.
 pub mod Parts
+pub mod Four

@@ -38,7 +38,7 @@ none-after [] rest e = e
 none-after (true ∷ bs) rest e = absurd (true≢false e)
 none-after (false ∷ bs) rest e = none-after bs rest e
 
-left-none : (one : Bool) (bs rest : List Bool) → any rest ≡ false → leftAfter one bs rest ≡ []
+pub left-none : (one : Bool) (bs rest : List Bool) → any rest ≡ false → leftAfter one bs rest ≡ []
 left-none one [] rest e = rw e
 left-none one (b ∷ bs) rest e = left-none b bs rest e
 

@@ -4,8 +4,8 @@ use mathlib.Core.Bool.{Bool, cond}
 use mathlib.Core.List.{List, [], _∷_, _++_}
 use Prim.Native.Nat.{ℕ, zero, suc, _+_, _*_, _^_, _<_}
 use lib.ListN.{length}
-use Rattle.bits.specs.Stream.{numberOf}
-use Rattle.planes.specs.Coder.{any, test, scan}
+use Rattle.bits.specs.Stream.{bit, digit, numberOf}
+use Rattle.planes.specs.Coder.{plane, any, test, scan}
 
 -- whether places follow after a part: with a spare place, which is the plane's last, none do
 abbrev pub Ends : ℕ → List Bool → Type 0
@@ -30,3 +30,13 @@ pub record PartCode (count code : ℕ) (whole left : List Bool) (count′ code�
   pub split : whole ≡ bits ++ left
   pub moved : count′ ≡ count + length bits
   pub number : code′ ≡ code + 2 ^ count * numberOf bits
+
+-- ---- planes four at a time
+
+-- bits k + 3 down to k of a word, each at the lowest place of four
+abbrev pub columnOf : ℕ → ℕ → ℕ
+columnOf k w = digit (bit (k + 3) w) + 16 * digit (bit (k + 2) w) + 256 * digit (bit (k + 1) w) + 4096 * digit (bit k w)
+
+-- planes k + 3 down to k, one after the other
+abbrev pub fourPlanes : ℕ → List ℕ → List Bool
+fourPlanes k ws = plane (k + 3) ws ++ (plane (k + 2) ws ++ (plane (k + 1) ws ++ plane k ws))

@@ -6,9 +6,9 @@ ghost use mathlib.Core.List.{List, _++_};
 ghost use Prim.Native.Nat.{_+_, _*_, _^_, _≤_, _<_};
 ghost use lib.ListN.{length, getD};
 ghost use lib.Seq.{slice};
-ghost use Rattle.bits.specs.Stream.{bit, numberBits, numberOf};
+ghost use Rattle.bits.specs.Stream.{bit, digit, numberBits, numberOf};
 ghost use Rattle.planes.specs.Coder.{plane, test, scan};
-ghost use Rattle.plane_parts.specs.Calls.{Part, PartCode, leftAfter};
+ghost use Rattle.plane_parts.specs.Calls.{Part, PartCode, leftAfter, columnOf, fourPlanes};
 
 // Bit k of word i.
 pub fn bit_at(words: &[u64], k: u32, i: usize) -> bool
@@ -30,6 +30,30 @@ pub fn gather(words: &[u64], k: u32, from: usize, count: usize, above: u32) -> u
         v = bits::with_digit(v, bit_at(words, k, from + i));
     }
     v
+}
+
+// Four bits in reverse, each at the lowest place of four.
+fn spread(x: u64) -> u64
+    requires { ⌜ x < 16 ⌝ }
+    ensures { λ r. ⌜ r ≡ digit (bit 3 x) + 16 * digit (bit 2 x) + 256 * digit (bit 1 x) + 4096 * digit (bit 0 x) ⌝ }
+{
+    x / 8 + (x / 4 % 2) * 16 + (x / 2 % 2) * 256 + (x % 2) * 4096
+}
+
+// The bits k + 3 down to k of word i, each at the lowest place of four.
+fn column(words: &[u64], k: u32, i: usize) -> u64
+    requires { ⌜ (k < 64) × (i < length (now words)) ⌝ }
+    ensures { λ r. ⌜ (r ≡ columnOf k (getD (now (words .entry)) i 0)) × (r ≤ 4369) ⌝ }
+{
+    spread((words[i] >> k) % 16)
+}
+
+// The planes k + 3 down to k of four words, as one number.
+pub fn four_planes(words: &[u64], k: u32) -> u64
+    requires { ⌜ (length (now words) ≡ 4) × (k + 4 ≤ 64) ⌝ }
+    ensures { λ r. ⌜ (r ≡ numberOf (fourPlanes k (now (words .entry)))) × (r < 2 ^ 16) ⌝ }
+{
+    column(words, k, 0) + 2 * column(words, k, 1) + 4 * column(words, k, 2) + 8 * column(words, k, 3)
 }
 
 // The code of a part: so many bits of a number.
