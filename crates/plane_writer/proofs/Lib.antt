@@ -2,3 +2,5 @@
 pub mod Places
 pub mod Steps
 pub mod Ones
+pub mod Runs
+pub mod Standing

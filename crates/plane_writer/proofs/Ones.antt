@@ -2,14 +2,16 @@
 use mathlib.Core.Path.{_≡_, refl, sym, ap, _∙_}
 use mathlib.Core.Bool.{Bool, true, false, _||_}
 use mathlib.Core.List.{List, [], _∷_}
-use Prim.Native.Nat.{ℕ, zero, suc, _+_, _/_, _%_, _^_, _≤_, _<_, max}
-use native.Mathlib.Nat.{zero-div}
+use Prim.Native.Nat.{ℕ, zero, suc, _+_, _-_, _/_, _%_, _^_, _≤_, _<_, min, max}
+use native.Mathlib.Nat.{zero-div, div-eq-of-lt, lt-of-lt-of-le}
 use native.Mathlib.Numerals.{add-one}
 use native.Mathlib.Decide.{decLe}
 use native.Mathlib.Omega.{arith}
 use lib.Bits.{bitOr, or-step, or-shr}
+use lib.Count.{leadingZeros, leading-length}
 use lib.Dec.{eqb}
 use lib.ListN.{length, getD, set, take, drop, drop-of-length-le, List·getD-map}
+use lib.Pow.{pow-mono}
 use lib.Seq.{slice, drop-cons, getD-set-same, getD-set-other, getD-take, getD-drop}
 use Rattle.bits.specs.Stream.{bit}
 use Rattle.planes.specs.Coder.{plane, any}
@@ -87,3 +89,18 @@ pub last-bit : (k i : ℕ) (ws : List ℕ) → i + 16 ≤ length ws → getD (sl
 last-bit k i ws h =
     getD-drop i (take (i + 16) (plane k ws)) 15 false ∙ getD-take (i + 16) (plane k ws) (i + 15) false (omega arith)
     ∙ ap (λ (b : Bool). getD (plane k ws) (i + 15) b) (sym (bit-zero k)) ∙ List·getD-map (bit k) ws (i + 15) 0
+
+-- ---- the planes from the top that have no one
+
+bit-above : (k a : ℕ) → a < 2 ^ k → bit k a ≡ false
+bit-above k a h = rw (div-eq-of-lt h)
+
+-- r planes below 2 ^ size, of a number whose leading zeros reach so far
+pub top-zeros : (size r k a : ℕ) → a < 2 ^ 64 → size ≤ 64 → r ≤ leadingZeros 64 a - (64 - size) → size ≤ k + r → k < size → bit k a ≡ false
+top-zeros size r k a h i j l m =
+    let t = leading-length 64 a h in
+    bit-above k a (lt-of-lt-of-le (t .2) (pow-mono (omega (arith, t .1))))
+
+-- a number that is the least of four
+pub least-of : {r a b z p budget : ℕ} → r ≡ min a b → a ≡ min z p → b ≡ min 32 budget → (r ≤ z) × (r ≤ p) × (r ≤ 32) × (r ≤ budget)
+least-of e f g = omega arith

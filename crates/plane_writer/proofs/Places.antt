@@ -10,7 +10,7 @@ use borrow.Author.Tests.{le-ltb, ltb-true, ltb-false, eqb-true, eqb-false}
 use lib.Count.{leadingZeros, leading-unique}
 use lib.Dec.{eqb}
 use lib.Pow.{pow-pos}
-use lib.ListN.{length, take, drop, getD, length-map, List·getD-map, drop-of-length-le, length-drop, take-append-drop}
+use lib.ListN.{length, take, drop, getD, List·getD-map, drop-of-length-le, length-drop, take-append-drop}
 use lib.Seq.{slice, drop-cons, length-take-le, drop-drop, length-slice}
 use Rattle.bits.specs.Stream.{bit, digit, numberBits, numberOf}
 use Rattle.bits.proofs.NumberLaws.{numberOf-append}
@@ -19,9 +19,7 @@ use Rattle.planes.specs.Coder.{plane, any, onesEnd, scan, test, planeCode, plan
 use Rattle.planes.proofs.Bound.{plane-bound}
 use Rattle.planes.proofs.End.{any-drop, end-drop, end-le, end-none}
 use Rattle.plane_parts.specs.Calls.{Ends, Part, leftAfter}
-
-pub plane-length : (k : ℕ) (ws : List ℕ) → length (plane k ws) ≡ length ws
-plane-length k ws = length-map ws (bit k)
+use Rattle.plane_parts.proofs.Parts.{left-none, plane-length}
 
 pub plane-cons : (k : ℕ) (ws : List ℕ) (i : ℕ) → i < length ws → drop i (plane k ws) ≡ bit k (getD ws i 0) ∷ drop (i + 1) (plane k ws)
 plane-cons k ws i h =
@@ -91,10 +89,6 @@ left-last one (b ∷ []) rest zero l e = rw e
 left-last one (b ∷ []) rest (suc j) l e = absurd (omega arith)
 left-last one (b ∷ c ∷ bs) rest zero l e = absurd (omega arith)
 left-last one (b ∷ c ∷ bs) rest (suc j) l e = left-last b (c ∷ bs) rest j (omega arith) e
-
-pub left-none : (one : Bool) (bs rest : List Bool) → any rest ≡ false → leftAfter one bs rest ≡ []
-left-none one [] rest e = rw e
-left-none one (b ∷ bs) rest e = left-none b bs rest e
 
 -- the place after the last one of a part, by its number
 number-none : (bs : List Bool) → any bs ≡ false → numberOf bs ≡ 0

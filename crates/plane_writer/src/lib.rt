@@ -1,6 +1,6 @@
 // The coder: writes the planes of words to a stream of bits, below a limit, and stops once more than a budget is written.
 ghost use mathlib.Core.Path.{_≡_};
-ghost use mathlib.Core.Bool.{true, cond};
+ghost use mathlib.Core.Bool.{true, false, cond};
 ghost use Prim.Native.Nat.{ℕ, _+_, _-_, _*_, _^_, _≤_, _<_};
 ghost use lib.Dec.{eqb};
 ghost use lib.ListN.{length, getD, take, drop};
@@ -184,6 +184,35 @@ fn used(w: Pending, from: usize) -> usize
     w.out.at + w.count as usize - from
 }
 
+// How many planes from the top, of p, have no one: of those within the budget, at most 32. The code of each is a 0.
+fn empty_planes(size: u32, ors: &[u64], p: u32, budget: usize) -> u32
+    requires { ⌜ (size ≤ 64) × (p ≤ size) ⌝ }
+    ensures { λ r. ⌜ (r ≤ p) × (r ≤ 32) × (r ≤ budget) × (0 < r → 0 < length (now (ors .entry)))
+        × ((k : ℕ) → size ≤ k + r → k < size → bit k (getD (now (ors .entry)) 0 0) ≡ false) ⌝ }
+{
+    if ors.len() == 0 {
+        return 0;
+    }
+    let zeros = u64::leading_zeros(ors[0]);
+    if zeros < 64 - size {
+        return 0;
+    }
+    let top = bits::least((zeros - (64 - size)) as usize, p as usize);
+    bits::least(top, bits::least(32, budget)) as u32
+}
+
+// Whether the n first bits of a plane are all of its four, so that planes can be written four at a time, and four of them are left within the budget.
+fn four_fit(n: usize, places: usize, left: u32, used: usize, budget: usize) -> bool
+    requires { ⌜ used < 2 ^ 32 ⌝ }
+    ensures { λ r. ⌜ (r ≡ true → (n ≡ 4) × (places ≡ 4) × (4 ≤ left) × (used + 16 ≤ budget)) ⌝ }
+{
+    if n == 4 && places == 4 && 4 <= left {
+        used + 16 <= budget
+    } else {
+        false
+    }
+}
+
 // The planes of words of `size` bits from the top one downward, p of them, or fewer if those take more than the budget.
 fn planes(
     size: u32,
@@ -202,25 +231,26 @@ fn planes(
         × (r .whole ≡ planesWithin size p budget (now (words .entry))) × (r .out .out .at + 64 < 2 ^ 32) ⌝ }
 {
     let lowest = size - p;
-    let mut next = bit_writer::start(out);
+    let m = empty_planes(size, ors, p, budget);
+    let mut w = bit_writer::push(buf, bit_writer::start(out), limit, 0, m);
     let mut n = 0;
-    let mut k = size;
+    let mut k = size - m;
     while lowest < k {
+        if four_fit(n, words.len(), k - lowest, used(w, out.at), budget) {
+            k -= 4;
+            w = bit_writer::push(buf, w, limit, plane_parts::four_planes(words, k), 16);
+            continue;
+        }
         k -= 1;
-        let c = put_plane(words, ors, k, n, buf, next, limit);
-        next = c.out;
-        if budget < used(next, out.at) {
-            return Stopped {
-                out: next,
-                whole: size - 1 - k,
-            };
+        let c = put_plane(words, ors, k, n, buf, w, limit);
+        w = c.out;
+        if budget < used(w, out.at) {
+            let whole = size - 1 - k;
+            return Stopped { out: w, whole };
         }
         n = c.n;
     }
-    Stopped {
-        out: next,
-        whole: p,
-    }
+    Stopped { out: w, whole: p }
 }
 
 // The planes of words of `size` bits from the top one downward, p of them. The budget, in bits of their code, is for the count of whole planes, and what

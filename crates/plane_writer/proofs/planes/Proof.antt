@@ -1,88 +1,178 @@
--- The loop's invariant: the planes above k are written, none of them past the budget, and counted.
-use mathlib.Core.Path.{_≡_, refl, _∙_}
-use mathlib.Core.List.{[]}
-use Prim.Native.Nat.{_+_, _-_, _*_, _≤_, _<_}
+-- The loop's invariant: the planes from k on are written, none of them past the budget, and counted.
+use mathlib.Core.Path.{_≡_, refl, sym, _∙_}
+use mathlib.Core.List.{List}
+use Prim.Native.Nat.{ℕ, _+_, _-_, _*_, _^_, _≤_, _<_}
 use native.Mathlib.Omega.{arith}
-use lib.ListN.{length}
-use Rattle.bit_writer.proofs.PushLaws.{start-ready, pushed-place}
-use Rattle.planes.specs.Coder.{planesOf, codeFrom, planesCode, endsFrom, within, planesWithin}
-use Rattle.plane_writer.proofs.Places.{plane-small}
-use Rattle.plane_writer.proofs.Steps.{Going, going-none, planes-more, count-whole, count-cut, used-more}
-use Rattle.plane_writer.proofs.Steps.{one-less, top-count, long-enough, below-top, place-more, all-whole}
 use borrow.Author.Needs.{needs}
+use lib.ListN.{length}
+use lib.Pow.{pow-pos}
+use Rattle.bit_writer.specs.declared.Pending.{Pending}
+use Rattle.bit_writer.proofs.PushLaws.{start-ready}
+use Rattle.plane_writer.proofs.Steps.{one-less}
+use Rattle.plane_writer.proofs.Standing.{Standing, standing-start, standing-near, standing-none, standing-four, plane-near, standing-plane}
+use Rattle.plane_writer.proofs.Standing.{standing-cut, standing-end}
 use Rattle.plane_writer.proofs.planes.Statement.{statement}
 use Rattle.plane_writer.proofs.planes.Tie as tie
 
 abbrev Inv-loop : tie.InvT-loop
-Inv-loop size words ors p buf₀ out limit budget lowest next₀ n₀ k₀ buf next n k =
-    (lowest ≤ k) × (k ≤ size) × (n ≤ length words) × (length buf ≡ length buf₀)
-    × Going buf₀ buf (record { out = out; bits = 0; count = 0 }) next limit (planesCode size p words) (codeFrom n (planesOf k (k - lowest) words))
-    × (size - k + within budget (endsFrom (next .out .at + next .count - out .at) n (planesOf k (k - lowest) words)) ≡ planesWithin size p budget words)
-    × (next .out .at + next .count ≤ out .at + 512 * (size - k)) × (out .at ≤ next .out .at)
+Inv-loop size words ors p buf₀ out limit budget lowest m w₀ n₀ k₀ buf w n k =
+    (length buf ≡ length buf₀)
+    × ((before : List ℕ) → Standing size p limit budget words before out buf₀ w₀ n₀ k₀ → Standing size p limit budget words before out buf w n k)
 
 abbrev μ-loop : tie.MeasureT-loop
-μ-loop size words ors p buf₀ out limit budget lowest next₀ n₀ k₀ buf next n k = k
+μ-loop size words ors p buf₀ out limit budget lowest m w₀ n₀ k₀ buf w n k = k
+
+abbrev entry : tie.At-loop Inv-loop μ-loop → tie.Start Inv-loop μ-loop
+entry c = c .before .before .before .before .before .before .before .before .before .before
+
+-- after the planes with no one
+abbrev StandingAt : tie.At-loop Inv-loop μ-loop → List ℕ → Pending → ℕ → ℕ → Type 0
+StandingAt c buf w n k =
+    let a = entry c .args in
+    Standing (a .size) (a .p) (a .limit) (a .budget) (a .words .now) (a .buf .now) (a .out) buf w n k
+
+begun : (c : tie.After-slice-known2 Inv-loop μ-loop)
+    → let put = c .before .before in
+    let e = put .before .before .before in
+    let a = e .before .before .before .before .args in
+    Standing (a .size) (a .p) (a .limit) (a .budget) (a .words .now) (a .buf .now) (a .out) (put .push .last .0) (put .push .result) 0
+    (a .size - e .empty-planes .result)
+begun c =
+    let put = c .before .before in
+    let e = put .before .before .before in
+    let s = e .before .before .before .before in
+    let a = s .args in
+    let empty = e .empty-planes .ensures in
+    let start = standing-start (a .size) (a .p) (a .limit) (a .budget) (a .words .now) (a .buf .now) (a .out) (s .pre .1) (s .pre .6) in
+    standing-none start (e .empty-planes .result) refl (omega (arith, empty .0, s .pre .1)) (λ z. omega (arith, empty .3 z, s .pre .2 .places))
+    (λ j x y. sym (s .pre .2 .tells j 0) ∙ empty .4 j x y) (omega (arith, empty .2)) (rw (put .before .start .ensures) at (put .push .ensures))
+
+standing : (c : tie.At-loop Inv-loop μ-loop) → StandingAt c (c .loop .buf) (c .loop .w) (c .loop .n) (c .loop .k)
+standing c = c .loop .inv .1 _ (begun (c .before))
+
+room : (c : tie.At-loop Inv-loop μ-loop) → entry c .args .limit ≤ 8 * length (c .loop .buf)
+room c = omega (arith, entry c .pre .4, c .loop .inv .0, c .before .before .before .push .kept .0)
+
+near : (c : tie.At-loop Inv-loop μ-loop) → c .loop .w .out .at + c .loop .w .count + 2048 < 2 ^ 32
+near c = standing-near (standing c) (entry c .pre .0) (entry c .pre .5)
 
 sub-lowest : tie.Need-sub-lowest Inv-loop μ-loop
 sub-lowest c = search needs
 
+empty-planes-requires : tie.Need-empty-planes-requires Inv-loop μ-loop
+empty-planes-requires c κs = search needs
+
 start-requires : tie.Need-start-requires Inv-loop μ-loop
 start-requires c κs = search needs
 
-loop-holds : tie.Need-loop-holds Inv-loop μ-loop
-unfolding planesCode planesWithin
-loop-holds c =
-    let s = c .before .before .before .before in
-    let a = s .args in
-    let e : a .size - (a .size - a .p) ≡ a .p = omega (arith, s .pre .1) in
-    let z : a .out .at + 0 - a .out .at ≡ 0 = omega arith in
+push-requires : tie.Need-push-requires Inv-loop μ-loop
+push-requires c κs =
+    let e = c .before .before in
+    let s = e .before .before .before .before in
     rw (c .start .ensures) (
-      omega arith,
-      omega arith,
-      omega arith,
-      refl,
-      rw e (going-none (start-ready (a .out) (s .pre .6))),
-      rw (e, z) (omega arith),
-      omega arith,
-      omega arith,
+      start-ready (s .args .out) (s .pre .6),
+      pow-pos (e .empty-planes .result),
+      omega (arith, e .empty-planes .ensures .1),
+      s .pre .4,
+      omega (arith, s .pre .5),
     )
 
 sub-k : tie.Need-sub-k Inv-loop μ-loop
 sub-k c = search needs
 
-put-plane-requires : tie.Need-put-plane-requires Inv-loop μ-loop
-put-plane-requires c κs =
-    let l = c .before .before .loop in
-    let s = c .before .before .before .before .before .before .before in (
-      omega (arith, l .inv .1, c .before .loop-test .taken, s .pre .0),
-      s .pre .2,
-      l .inv .2,
-      s .pre .3,
-      l .inv .4 .pushed .ready,
-      omega (arith, s .pre .4, l .inv .3),
-      omega (arith, l .inv .6, s .pre .0, s .pre .5),
-    )
+loop-holds : tie.Need-loop-holds Inv-loop μ-loop
+loop-holds c = (refl, λ before s. s)
+
+sub-four-fit : tie.Need-sub-four-fit Inv-loop μ-loop
+sub-four-fit c = search needs
 
 used-requires : tie.Need-used-requires Inv-loop μ-loop
 used-requires c κs =
-    let put = c .before .before .before in
-    let l = put .before .before .before .loop in
-    let s = put .before .before .before .before .before .before .before .before in
-    let r = put .put-plane .ensures in
-    let small = plane-small (l .k - 1) (s .args .words .now) (l .n) (l .inv .2) in
-    let at = pushed-place (r .pushed) in (
-      omega (arith, l .inv .7, r .pushed .written .moved),
-      omega (arith, at, small, l .inv .6, s .pre .0, s .pre .5, s .pre .3),
-      omega (arith, r .pushed .ready .short),
+    let l = c .before in
+    let s = entry l in
+    (standing l .onward, omega (arith, near l), omega (arith, standing l .going .pushed .ready .short))
+
+four-fit-requires : tie.Need-four-fit-requires Inv-loop μ-loop
+four-fit-requires c κs =
+    let l = c .before .before in
+    let s = entry l in
+    rw (c .used .ensures) (omega (arith, near l))
+
+sub-k-2 : tie.Need-sub-k-2 Inv-loop μ-loop
+sub-k-2 c = let fit = c .before .four-fit .ensures (c .if1 .taken) in omega (arith, fit .2)
+
+four-planes-requires : tie.Need-four-planes-requires Inv-loop μ-loop
+four-planes-requires c κs =
+    let fit = c .before .before .four-fit .ensures (c .before .if1 .taken) in
+    let l = c .before .before .before .before .before in
+    let s = entry l in
+    (fit .1, omega (arith, fit .2, standing l .top, s .pre .0))
+
+push-requires-2 : tie.Need-push-requires-2 Inv-loop μ-loop
+push-requires-2 c κs =
+    let l = c .before .before .before .before .before .before in
+    let s = entry l in
+    (
+      standing l .going .pushed .ready,
+      c .four-planes .ensures .1,
+      omega arith,
+      room l,
+      omega (arith, near l),
     )
 
-sub-t18 : tie.Need-sub-t18 Inv-loop μ-loop
-sub-t18 c = search needs
+loop-less : tie.Need-loop-less Inv-loop μ-loop
+loop-less c =
+    let t = c .before .before .before .before .before in
+    let fit = t .before .four-fit .ensures (t .if1 .taken) in
+    omega (arith, fit .2)
 
-sub-t19 : tie.Need-sub-t19 Inv-loop μ-loop
-sub-t19 c =
-    let turn = c .before .before .before .before .before .before .before in
-    top-count _ _ _ (turn .loop-test .taken) (turn .before .loop .inv .1) .0
+loop-again : tie.Need-loop-again Inv-loop μ-loop
+loop-again c =
+    let put = c .before .before in
+    let t = put .before .before .before in
+    let fit = t .before .four-fit .ensures (t .if1 .taken) in
+    let l = t .before .before .before .before in (
+      put .push2 .kept .0 ∙ l .loop .inv .0,
+      (λ before s. standing-four (l .loop .inv .1 before s) (fit .0) (omega (arith, fit .2)) (fit .1)
+          (rw (t .before .before .used .ensures) at (fit .3)) (put .before .four-planes .ensures .0) (put .push2 .ensures)),
+    )
+
+sub-k-3 : tie.Need-sub-k-3 Inv-loop μ-loop
+sub-k-3 c = search needs
+
+put-plane-requires : tie.Need-put-plane-requires Inv-loop μ-loop
+put-plane-requires c κs =
+    let l = c .before .before .before .before .before in
+    let s = entry l in
+    (
+      omega (arith, standing l .top, c .before .before .before .before .loop-test .taken, s .pre .0),
+      s .pre .2,
+      standing l .first,
+      s .pre .3,
+      standing l .going .pushed .ready,
+      room l,
+      omega (arith, near l),
+    )
+
+used-requires-2 : tie.Need-used-requires-2 Inv-loop μ-loop
+used-requires-2 c κs =
+    let put = c .before .before .before in
+    let turn = put .before .before .before .before .before in
+    let l = turn .before in
+    let s = entry l in
+    let r = put .put-plane .ensures in
+    let near = plane-near (standing l) (turn .loop-test .taken) (s .pre .3) r (s .pre .0) (s .pre .5) in
+    (near .0, near .1, omega (arith, r .pushed .ready .short))
+
+sub-whole : tie.Need-sub-whole Inv-loop μ-loop
+sub-whole c =
+    let turn = c .before .before .before .before .before .before .before .before .before .before in
+    omega (arith, turn .loop-test .taken, standing (turn .before) .top)
+
+sub-whole-2 : tie.Need-sub-whole-2 Inv-loop μ-loop
+sub-whole-2 c =
+    let turn = c .before .before .before .before .before .before .before .before .before .before in
+    omega (arith, turn .loop-test .taken, standing (turn .before) .top)
 
 same-length : tie.Need-same-length Inv-loop μ-loop
 same-length c = search needs
@@ -90,66 +180,26 @@ same-length c = search needs
 returns : tie.Need-returns Inv-loop μ-loop
 returns c =
     let put = c .before .before .before .before .before in
-    let turn = put .before .before in
-    let l = turn .before .loop in
-    let s = put .before .before .before .before .before .before .before .before in
-    let a = s .args in
-    let ws = a .words .now in
-    let lowest = a .size - a .p in
-    let r = put .put-plane .ensures in
-    let w = put .put-plane .result .out in
-    let at = pushed-place (r .pushed) in
-    let g = planes-more lowest (l .k) (l .n) ws (turn .loop-test .taken) (l .inv .4) r in
-    let used = used-more (l .next .out .at) (l .next .count) (a .out .at) (w .out .at) (w .count) _ (l .inv .7) at in
-    let over : a .budget < w .out .at + w .count - a .out .at = rw (c .before .used .ensures) at (c .if1 .taken) in
-    let all = count-cut lowest (l .k) (l .n) (l .next .out .at + l .next .count - a .out .at) (a .budget) (a .size - l .k) ws
-    (turn .loop-test .taken) used (r .moved) (l .inv .5) over in
-    let top = top-count (a .size) lowest (l .k) (turn .loop-test .taken) (l .inv .1) in
-    let small = plane-small (l .k - 1) ws (l .n) (l .inv .2) in (
-      record {
-        done = g .done;
-        more = _;
-        split = g .split;
-        pushed = g .pushed;
-        enough = λ h. long-enough (a .out .at) (w .out .at + w .count) (length (g .done)) (pushed-place (g .pushed)) over;
-      },
-      top .1 ∙ all,
-      omega (arith, at, small, l .inv .6, s .pre .0, s .pre .5, s .pre .3),
-    )
+    let turn = put .before .before .before .before .before in
+    let l = turn .before in
+    let s = entry l in
+    standing-cut (standing l) (turn .loop-test .taken) (s .pre .3) (put .put-plane .ensures) (s .pre .0) (s .pre .5)
+    (rw (c .before .used2 .ensures) at (c .if2 .taken))
 
-loop-less : tie.Need-loop-less Inv-loop μ-loop
-loop-less c =
-    let turn = c .before .before .before .before .before .before .before in
+loop-less-2 : tie.Need-loop-less-2 Inv-loop μ-loop
+loop-less-2 c =
+    let turn = c .before .before .before .before .before .before .before .before .before .before in
     one-less _ _ (turn .loop-test .taken)
 
-loop-again : tie.Need-loop-again Inv-loop μ-loop
-loop-again c =
+loop-again-2 : tie.Need-loop-again-2 Inv-loop μ-loop
+loop-again-2 c =
     let put = c .before .before .before .before .before in
-    let turn = put .before .before in
-    let l = turn .before .loop in
-    let s = put .before .before .before .before .before .before .before .before in
-    let a = s .args in
-    let ws = a .words .now in
-    let lowest = a .size - a .p in
-    let r = put .put-plane .ensures in
-    let w = put .put-plane .result .out in
-    let at = pushed-place (r .pushed) in
-    let g = planes-more lowest (l .k) (l .n) ws (turn .loop-test .taken) (l .inv .4) r in
-    let used = used-more (l .next .out .at) (l .next .count) (a .out .at) (w .out .at) (w .count) _ (l .inv .7) at in
-    let under : w .out .at + w .count - a .out .at ≤ a .budget = rw (c .before .used .ensures) at (c .if1 .left) in
-    let all = count-whole lowest (l .k) (l .n) (l .next .out .at + l .next .count - a .out .at) (a .budget) (a .size - l .k) ws
-    (turn .loop-test .taken) used (r .moved) (l .inv .5) under in
-    let top = top-count (a .size) lowest (l .k) (turn .loop-test .taken) (l .inv .1) in
-    let small = plane-small (l .k - 1) ws (l .n) (l .inv .2) in (
-      below-top lowest (l .k) (turn .loop-test .taken),
-      omega (arith, l .inv .1),
-      omega (arith, r .moved, small),
-      put .put-plane .kept .1 .1 .1 .1 .0 ∙ l .inv .3,
-      g,
-      rw (top .2) all,
-      place-more (l .next .out .at + l .next .count) (a .out .at) (a .size) (l .k) _ _ (length ws) (l .inv .6) at
-          (small .0) (s .pre .3) (turn .loop-test .taken) (l .inv .1),
-      omega (arith, l .inv .7, r .pushed .written .moved),
+    let turn = put .before .before .before .before .before in
+    let l = turn .before in
+    (
+      put .put-plane .kept .1 .1 .1 .1 .0 ∙ l .loop .inv .0,
+      (λ before s. standing-plane (l .loop .inv .1 before s) (turn .loop-test .taken) (entry l .pre .3) (put .put-plane .ensures)
+          (rw (c .before .used2 .ensures) at (c .if2 .left))),
     )
 
 same-length-2 : tie.Need-same-length-2 Inv-loop μ-loop
@@ -157,17 +207,9 @@ same-length-2 c = search needs
 
 returns-2 : tie.Need-returns-2 Inv-loop μ-loop
 returns-2 c =
-    let l = c .before .loop in
-    let s = c .before .before .before .before .before .before in
-    let a = s .args in
-    let lowest = a .size - a .p in
-    let e : l .k - lowest ≡ 0 = omega (arith, l .inv .0) in
-    let g = l .inv .4 in
-    let count = rw e at (l .inv .5) in (
-      record { done = g .done; more = []; split = rw e at (g .split); pushed = g .pushed; enough = λ h. absurd (omega arith) },
-      all-whole (a .size) (a .p) (l .k) (s .pre .1) (l .inv .0) (omega arith) ∙ count,
-      omega (arith, l .inv .6, s .pre .0, s .pre .5),
-    )
+    let l = c .before in
+    let s = entry l in
+    standing-end (standing l) (s .pre .1) (s .pre .0) (s .pre .5) (c .loop-test .left)
 
 pub planes-spec : {M : Type 1} → statement M
 planes-spec =
@@ -176,16 +218,27 @@ planes-spec =
     Inv-loop
     μ-loop
     sub-lowest
+    empty-planes-requires
     start-requires
-    loop-holds
+    push-requires
     sub-k
-    put-plane-requires
+    loop-holds
+    sub-four-fit
     used-requires
-    sub-t18
-    sub-t19
-    same-length
-    returns
+    four-fit-requires
+    sub-k-2
+    four-planes-requires
+    push-requires-2
     loop-less
     loop-again
+    sub-k-3
+    put-plane-requires
+    used-requires-2
+    sub-whole
+    sub-whole-2
+    same-length
+    returns
+    loop-less-2
+    loop-again-2
     same-length-2
     returns-2)
