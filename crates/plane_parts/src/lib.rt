@@ -53,7 +53,10 @@ pub fn four_planes(words: &[u64], k: u32) -> u64
     requires { ⌜ (length (now words) ≡ 4) × (k + 4 ≤ 64) ⌝ }
     ensures { λ r. ⌜ (r ≡ numberOf (fourPlanes k (now (words .entry)))) × (r < 2 ^ 16) ⌝ }
 {
-    column(words, k, 0) + 2 * column(words, k, 1) + 4 * column(words, k, 2) + 8 * column(words, k, 3)
+    column(words, k, 0)
+        + 2 * column(words, k, 1)
+        + 4 * column(words, k, 2)
+        + 8 * column(words, k, 3)
 }
 
 // The code of a part: so many bits of a number.

@@ -1,20 +1,20 @@
 -- Where the coder stands between planes, and how a plane or a run of planes takes it on. Assumes nothing.
-use mathlib.Core.Path.{_≡_, ap, _∙_}
+use mathlib.Core.Path.{_≡_, sym, ap, _∙_}
 use mathlib.Core.Bool.{false}
 use mathlib.Core.List.{List, []}
 use Prim.Native.Nat.{ℕ, _+_, _-_, _*_, _^_, _≤_, _<_}
 use native.Mathlib.Omega.{arith}
-use lib.ListN.{length}
+use lib.ListN.{length, getD}
 use Rattle.bits.specs.declared.Cursor.{Cursor}
-use Rattle.bits.specs.Stream.{numberBits, numberOf}
+use Rattle.bits.specs.Stream.{bit, numberBits, numberOf}
 use Rattle.bits.proofs.NumberLaws.{length-numberBits}
 use Rattle.bit_writer.specs.declared.Pending.{Pending}
 use Rattle.bit_writer.specs.Calls.{Pushed}
 use Rattle.bit_writer.proofs.PushLaws.{start-ready, pushed-place}
-use Rattle.planes.specs.Coder.{plane, planesOf, any, planeCode, planeNext, codeFrom, planesCode, endsFrom, within, planesWithin}
+use Rattle.planes.specs.Coder.{plane, planesOf, planeCode, planeNext, codeFrom, planesCode, endsFrom, within, planesWithin}
 use Rattle.plane_parts.specs.Calls.{fourPlanes}
 use Rattle.plane_parts.proofs.Four.{four-back}
-use Rattle.plane_writer.specs.Calls.{Advanced, Begun}
+use Rattle.plane_writer.specs.Calls.{OnesFrom, Advanced, Begun}
 use Rattle.plane_writer.proofs.Places.{plane-small}
 use Rattle.plane_writer.proofs.Steps.{Going, going-none, planes-more, count-whole, count-cut, used-more}
 use Rattle.plane_writer.proofs.Steps.{long-enough, place-more, all-whole}
@@ -44,21 +44,21 @@ far : (at count from size k : ℕ) → at + count ≤ from + 512 * (size - k) �
     → (at + 64 < 2 ^ 32) × (at + count + 2048 < 2 ^ 32)
 far at count from size k h i j = omega arith
 
-module _ (size p limit budget : ℕ) (ws before : List ℕ) (out : Cursor) (h : p ≤ size) where
-  pub standing-start : out .writes ≤ out .at → Standing size p limit budget ws before out before (fresh out) 0 size
-  unfolding planesCode planesWithin
-  standing-start f =
-      let e : size - (size - p) ≡ p = omega arith in
-      let z : out .at + 0 - out .at ≡ 0 = omega arith in
-      record {
-        low = omega arith;
-        top = omega arith;
-        first = omega arith;
-        going = rw e (going-none (start-ready out f));
-        count = rw (e, z) (omega arith);
-        near = omega arith;
-        onward = omega arith;
-      }
+standing-start : (size p limit budget : ℕ) (ws before : List ℕ) (out : Cursor) → p ≤ size → out .writes ≤ out .at
+    → Standing size p limit budget ws before out before (fresh out) 0 size
+unfolding planesCode planesWithin
+standing-start size p limit budget ws before out h f =
+    let e : size - (size - p) ≡ p = omega arith in
+    let z : out .at + 0 - out .at ≡ 0 = omega arith in
+    record {
+      low = omega arith;
+      top = omega arith;
+      first = omega arith;
+      going = rw e (going-none (start-ready out f));
+      count = rw (e, z) (omega arith);
+      near = omega arith;
+      onward = omega arith;
+    }
 
 module _ {size p limit budget : ℕ} {ws before after after₂ : List ℕ} {out : Cursor} {w w₂ : Pending} {n k : ℕ}
     (s : Standing size p limit budget ws before out after w n k) where
@@ -79,16 +79,6 @@ module _ {size p limit budget : ℕ} {ws before after after₂ : List ℕ} {out 
         near = rw e (omega (arith, s .near, at));
         onward = omega (arith, s .onward, r .written .moved);
       }
-
-  -- planes with no one, before any one was met
-  pub standing-none : (m : ℕ) → n ≡ 0 → size - p + m ≤ k → (0 < m → 0 < length ws) → ((j : ℕ) → k ≤ j + m → j < k → any (plane j ws) ≡ false)
-      → w .out .at + w .count - out .at + m ≤ budget → Pushed after after₂ w limit (numberBits m 0) w₂
-      → Standing size p limit budget ws before out after₂ w₂ n (k - m)
-  standing-none m z h some none room r =
-      let run = none-run k m ws (omega arith) some none in
-      let code : codeFrom n (planesOf k m ws) ≡ numberBits m 0 = rw z (run .1) in
-      let long : length (codeFrom n (planesOf k m ws)) ≡ m = ap length code ∙ length-numberBits m 0 in
-      standing-run m h (rw z (run .0)) (omega (arith, long)) (rw long room) (rw code r)
 
   -- four planes of four words, written as they are
   pub standing-four : {v : ℕ} → n ≡ 4 → size - p + 4 ≤ k → length ws ≡ 4 → w .out .at + w .count - out .at + 16 ≤ budget
@@ -149,6 +139,17 @@ module _ {size p limit budget : ℕ} {ws before after after₂ : List ℕ} {out 
           e ∙ count-cut (size - p) k n _ budget (size - k) ws h used (r .moved) (s .count) over,
           far (w₂ .out .at) (w₂ .count) (out .at) size (k - 1) next-near i j .0,
         )
+
+-- m planes with no one, from the top
+pub standing-empty : {w w₂ : Pending} {out : Cursor} {after : List ℕ} (size p limit budget : ℕ) (ws ors before : List ℕ) (m : ℕ) → p ≤ size
+    → out .writes ≤ out .at → w ≡ fresh out → OnesFrom ors ws → m ≤ p → m ≤ budget → (0 < m → 0 < length ors)
+    → ((k : ℕ) → size ≤ k + m → k < size → bit k (getD ors 0 0) ≡ false) → Pushed before after w limit (numberBits m 0) w₂
+    → Standing size p limit budget ws before out after w₂ 0 (size - m)
+standing-empty {out = out} size p limit budget ws ors before m h f same ones l b some none r =
+    let run = none-run size m ws (omega arith) (λ z. omega (arith, some z, ones .places)) (λ k x y. sym (ones .tells k 0) ∙ none k x y) in
+    let long : length (codeFrom 0 (planesOf size m ws)) ≡ m = ap length (run .1) ∙ length-numberBits m 0 in
+    standing-run (standing-start size p limit budget ws before out h f) m (omega arith) (run .0) (omega (arith, long)) (omega (arith, long))
+    (rw (run .1) (rw same at r))
 
 pub standing-near : {size p limit budget : ℕ} {ws before after : List ℕ} {out : Cursor} {w : Pending} {n k : ℕ}
     → Standing size p limit budget ws before out after w n k → size ≤ 64 → out .at < 2 ^ 31 → w .out .at + w .count + 2048 < 2 ^ 32

@@ -74,18 +74,12 @@ module _ {at₂ n₂ total : ℕ} (lowest k n at budget whole : ℕ) (ws : List 
 pub one-less : (lowest k : ℕ) → lowest < k → k - 1 < k
 one-less lowest k h = omega arith
 
-pub top-count : (size lowest k : ℕ) → lowest < k → k ≤ size → (k - 1 ≤ size - 1) × (size - 1 - (k - 1) ≡ size - k) × (size - (k - 1) ≡ size - k + 1)
-top-count size lowest k h l = omega arith
-
 -- the bits used after a plane
 pub used-more : (at count from at₂ count₂ l : ℕ) → from ≤ at → at₂ + count₂ ≡ at + count + l → at₂ + count₂ - from ≡ at + count - from + l
 used-more at count from at₂ count₂ l h e = omega arith
 
 pub long-enough : {budget : ℕ} (from at l : ℕ) → at ≡ from + 0 + l → budget < at - from → budget < l
 long-enough from at l e h = omega arith
-
-pub below-top : (lowest k : ℕ) → lowest < k → lowest ≤ k - 1
-below-top lowest k h = omega arith
 
 -- a plane takes at most two bits a place
 pub place-more : {at₂ : ℕ} (at from size k l N m : ℕ) → at ≤ from + 512 * (size - k) → at₂ ≡ at + l → l ≤ 2 * m → m ≤ 256 → N < k → k ≤ size

@@ -1,5 +1,4 @@
 -- Four bits of a word are its lowest bits once it is moved down. Assumes nothing.
-use mathlib.Core.Path.{sym, _∙_}
 use native.Mathlib.Omega.{arith}
 use borrow.Author.Needs.{needs}
 use lib.ListN.{getD}
