@@ -85,6 +85,7 @@ pub full-run : (k m n : ℕ) (ws : List ℕ) → length ws ≤ n → Still n (pl
 full-run k zero n ws h = tt
 full-run k (suc m) n ws h = (next-past (k - 1) ws n h, full-run (k - 1) m n ws h)
 
+-- of four words, four of them
 pub four-run : (k : ℕ) (ws : List ℕ) → 4 ≤ k → length ws ≡ 4 → codeFrom 4 (planesOf k 4 ws) ≡ fourPlanes (k - 4) ws
 unfolding planeCode planeNext
 four-run k ws h e =

@@ -63,7 +63,7 @@ standing-start size p limit budget ws before out h f =
 module _ {size p limit budget : ℕ} {ws before after after₂ : List ℕ} {out : Cursor} {w w₂ : Pending} {n k : ℕ}
     (s : Standing size p limit budget ws before out after w n k) where
   -- a run of m planes
-  pub standing-run : (m : ℕ) → size - p + m ≤ k → Still n (planesOf k m ws) → length (codeFrom n (planesOf k m ws)) ≤ 512 * m
+  standing-run : (m : ℕ) → size - p + m ≤ k → Still n (planesOf k m ws) → length (codeFrom n (planesOf k m ws)) ≤ 512 * m
       → w .out .at + w .count - out .at + length (codeFrom n (planesOf k m ws)) ≤ budget
       → Pushed after after₂ w limit (codeFrom n (planesOf k m ws)) w₂ → Standing size p limit budget ws before out after₂ w₂ n (k - m)
   standing-run m h still small room r =

@@ -201,7 +201,7 @@ fn empty_planes(size: u32, ors: &[u64], p: u32, budget: usize) -> u32
     bits::least(top, bits::least(32, budget)) as u32
 }
 
-// Whether the n first bits of a plane are all of its four, so that planes can be written four at a time, and four of them are left within the budget.
+// Whether four planes of four words can be written as they are at once: n is 4, so many planes are left, and they end within the budget.
 fn four_fit(n: usize, places: usize, left: u32, used: usize, budget: usize) -> bool
     requires { ⌜ used < 2 ^ 32 ⌝ }
     ensures { λ r. ⌜ (r ≡ true → (n ≡ 4) × (places ≡ 4) × (4 ≤ left) × (used + 16 ≤ budget)) ⌝ }
@@ -213,7 +213,8 @@ fn four_fit(n: usize, places: usize, left: u32, used: usize, budget: usize) -> b
     }
 }
 
-// The planes of words of `size` bits from the top one downward, p of them, or fewer if those take more than the budget.
+// The planes of words of `size` bits from the top one downward, p of them, or fewer if those take more than the budget. Those at the top that have no one
+// are written at once, and those of four words four at a time once n is 4.
 fn planes(
     size: u32,
     words: &[u64],

@@ -91,7 +91,7 @@ loop-holds : tie.Need-loop-holds Inv-loop μ-loop
 loop-holds c = (refl, λ before s. s)
 
 sub-four-fit : tie.Need-sub-four-fit Inv-loop μ-loop
-sub-four-fit c = search needs
+sub-four-fit c = standing (c .before) .low
 
 used-requires : tie.Need-used-requires Inv-loop μ-loop
 used-requires c κs =
