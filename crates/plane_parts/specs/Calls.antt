@@ -1,4 +1,4 @@
--- A part of a plane, and what its tests and scans write of the plane's code.
+-- A part of a plane, and what its tests and scans write of the plane's code; and planes four at a time.
 use mathlib.Core.Path.{_≡_}
 use mathlib.Core.Bool.{Bool, cond}
 use mathlib.Core.List.{List, [], _∷_, _++_}

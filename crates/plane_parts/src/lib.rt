@@ -1,5 +1,5 @@
 // A part of a plane, at most 16 places, as a number: its bits gathered, and what its tests and scans write. No buffer is lent to test and scan, so that
-// their cycle becomes a loop.
+// their cycle becomes a loop. Four planes of four words as a number.
 ghost use mathlib.Core.Path.{_≡_};
 ghost use mathlib.Core.Bool.{Bool, true, false, cond};
 ghost use mathlib.Core.List.{List, _++_};
