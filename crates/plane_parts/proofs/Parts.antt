@@ -1,14 +1,14 @@
 -- Parts of a plane, place by place: what a test and a scan write of them, and what they leave. Assumes nothing.
 use mathlib.Core.Path.{_≡_, refl, sym, ap, _∙_}
 use mathlib.Core.Bool.{Bool, true, false, true≢false}
-use mathlib.Core.List.{List, [], _∷_, _++_}
+use mathlib.Core.List.{List, [], _∷_, _++_, append-assoc}
 use Prim.Native.Nat.{ℕ, zero, suc, _+_, _-_, _*_, _/_, _%_, _^_, _≤_, _<_}
 use native.Mathlib.Nat.{pow-suc}
 use native.Mathlib.Numerals.{add-one}
 use native.Mathlib.Omega.{arith}
-use lib.ListN.{length, length-map}
+use lib.ListN.{length, length-map, length-append}
 use Rattle.bits.specs.Stream.{bit, digit, numberBits, numberOf}
-use Rattle.bits.proofs.NumberLaws.{digit-lt, bits-back}
+use Rattle.bits.proofs.NumberLaws.{digit-lt, bits-back, numberOf-append}
 use Rattle.planes.specs.Coder.{plane, any, answer, test, scan}
 use Rattle.plane_parts.specs.Calls.{Ends, Part, leftAfter, PartCode}
 
@@ -171,10 +171,11 @@ pow-next k = rw add-one (pow-suc 2 k ∙ omega arith)
 pub one-longer : (k code : ℕ) → code < 2 ^ k → code < 2 ^ (k + 1)
 one-longer k code h = omega (arith, pow-next k)
 
--- ---- a part's code as a number
+-- ---- a part's code as a number, with the bits that stand below it
 
-pub code-number : {whole left : List Bool} {count code : ℕ} → PartCode 0 0 whole left count code → numberBits count code ++ left ≡ whole
-code-number {left = left} p =
-    let number : _ ≡ numberOf (p .bits) = p .number ∙ omega arith in
-    let count : _ ≡ length (p .bits) = p .moved ∙ omega arith in
-    rw (number, count, bits-back (p .bits)) (sym (p .split))
+pub code-after : {count code count′ code′ : ℕ} {whole left : List Bool} (first : List Bool) → length first ≡ count → code ≡ numberOf first
+    → PartCode count code whole left count′ code′ → numberBits count′ code′ ++ left ≡ first ++ whole
+code-after {left = left} first l e p =
+    let number : _ ≡ numberOf (first ++ p .bits) = p .number ∙ rw (e, ← l, numberOf-append first (p .bits)) (omega arith) in
+    let count : _ ≡ length (first ++ p .bits) = p .moved ∙ rw (← l) (sym (length-append first (p .bits))) in
+    rw (number, count, bits-back (first ++ p .bits)) (append-assoc first (p .bits) left ∙ ap (λ (x : List Bool). first ++ x) (sym (p .split)))

@@ -32,6 +32,21 @@ pub fn gather(words: &[u64], k: u32, from: usize, count: usize, above: u32) -> u
     v
 }
 
+// The four bits of plane k of four words, lowest first.
+pub fn gather_four(words: &[u64], k: u32) -> u32
+    requires { ⌜ (k < 64) × (length (now words) ≡ 4) ⌝ }
+    ensures { λ r. ⌜ r ≡ numberOf (plane k (now (words .entry))) ⌝ }
+{
+    let two = bits::with_digit(
+        bits::with_digit(0, bit_at(words, k, 3)),
+        bit_at(words, k, 2),
+    );
+    bits::with_digit(
+        bits::with_digit(two, bit_at(words, k, 1)),
+        bit_at(words, k, 0),
+    )
+}
+
 // Four bits in reverse, each at the lowest place of four.
 fn spread(x: u64) -> u64
     requires { ⌜ x < 16 ⌝ }

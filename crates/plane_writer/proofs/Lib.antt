@@ -4,3 +4,4 @@ pub mod Steps
 pub mod Ones
 pub mod Runs
 pub mod Standing
+pub mod ShortPlanes

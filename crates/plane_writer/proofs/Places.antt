@@ -91,7 +91,7 @@ left-last one (b ∷ c ∷ bs) rest zero l e = absurd (omega arith)
 left-last one (b ∷ c ∷ bs) rest (suc j) l e = left-last b (c ∷ bs) rest j (omega arith) e
 
 -- the place after the last one of a part, by its number
-number-none : (bs : List Bool) → any bs ≡ false → numberOf bs ≡ 0
+pub number-none : (bs : List Bool) → any bs ≡ false → numberOf bs ≡ 0
 number-none [] e = refl
 number-none (true ∷ bs) e = absurd (true≢false e)
 number-none (false ∷ bs) e = omega (arith, number-none bs e)

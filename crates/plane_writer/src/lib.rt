@@ -1,10 +1,11 @@
 // The coder: writes the planes of words to a stream of bits, below a limit, and stops once more than a budget is written.
 ghost use mathlib.Core.Path.{_≡_};
-ghost use mathlib.Core.Bool.{true, false, cond};
-ghost use Prim.Native.Nat.{ℕ, _+_, _-_, _*_, _^_, _≤_, _<_};
+ghost use mathlib.Core.Bool.{Bool, true, false, cond};
+ghost use mathlib.Core.List.{List};
+ghost use Prim.Native.Nat.{ℕ, _+_, _-_, _*_, _%_, _^_, _≤_, _<_};
 ghost use lib.Dec.{eqb};
 ghost use lib.ListN.{length, getD, take, drop};
-ghost use Rattle.bits.specs.Stream.{bit, digit};
+ghost use Rattle.bits.specs.Stream.{bit, digit, numberBits, numberOf};
 ghost use Rattle.bits.specs.Writes.{mostWrites};
 ghost use Rattle.bits.specs.Calls.{Reached};
 ghost use Rattle.bit_writer.specs.Calls.{Ready, Pushed};
@@ -149,8 +150,8 @@ fn tests(
     last_part(words, k, i, testing, buf, next, limit)
 }
 
-// Plane k: its n first bits as they are, then a test, if places are left.
-fn put_plane(
+// Plane k: its n first bits as they are, 16 at a time, then a test, if places are left.
+fn put_long(
     words: &[u64],
     ors: &[u64],
     k: u32,
@@ -173,6 +174,92 @@ fn put_plane(
     } else {
         let last = bit_writer::push(buf, next, limit, 0, 1);
         Coder { out: last, n }
+    }
+}
+
+// What a plane of at most 16 places writes, and the place to which n moves.
+struct Short {
+    pub bits: u64,
+    pub count: u32,
+    pub to: usize,
+}
+
+// All bits of plane k of at most 16 words, as a number.
+fn gather_all(words: &[u64], k: u32) -> u32
+    requires { ⌜ (k < 64) × (length (now words) ≤ 16) ⌝ }
+    ensures { λ r. ⌜ r ≡ numberOf (plane k (now (words .entry))) ⌝ }
+{
+    if words.len() == 4 {
+        plane_parts::gather_four(words, k)
+    } else {
+        plane_parts::gather(words, k, 0, words.len(), 0)
+    }
+}
+
+// The n lowest bits of x.
+fn first_bits(x: u32, n: usize) -> u64
+    requires { ⌜ n ≤ 16 ⌝ }
+    ensures { λ r. ⌜ (r ≡ x % 2 ^ n) × (r < 2 ^ n) ⌝ }
+{
+    (x as u64) % (1u64 << n)
+}
+
+// What a plane of so many places writes whose bits are x: the n first as they are, then a test, if places are left.
+fn short_code(x: u32, places: usize, n: usize) -> Short
+    requires { ⌜ (n ≤ places) × (places ≤ 16) ⌝ }
+    ensures { λ r. ⌜ ((bs : List Bool) → length bs ≡ places → x ≡ numberOf bs
+        → (numberBits (r .count) (r .bits) ≡ planeCode n bs) × (r .to ≡ planeNext n bs))
+        × (r .bits < 2 ^ r .count) × (r .count ≤ 33) ⌝ }
+{
+    let mut bits = first_bits(x, n);
+    if n == places {
+        return Short {
+            bits,
+            count: n as u32,
+            to: n,
+        };
+    }
+    let rest = x >> n;
+    let count = plane_parts::test(rest, (places - n) as u32, 1, n as u32, &mut bits);
+    let ones = (32 - u32::leading_zeros(rest)) as usize;
+    Short {
+        bits,
+        count,
+        to: n + ones,
+    }
+}
+
+// Plane k of at most 16 words, in one pass.
+fn put_short(words: &[u64], k: u32, n: usize, buf: &mut [u8], w: Pending, limit: usize) -> Coder
+    requires { ⌜ (k < 64) × (n ≤ length (now words)) × (length (now words) ≤ 16) × Ready w
+        × (limit ≤ 8 * length (now buf)) × (w .out .at + 2048 < 2 ^ 32) ⌝ }
+    ensures { λ r. ⌜ Advanced (now (buf .entry)) (now (buf .exit)) w limit
+        (planeCode n (plane k (now (words .entry)))) (planeNext n (plane k (now (words .entry)))) (r .out) (r .n) ⌝ }
+{
+    let c = short_code(gather_all(words, k), words.len(), n);
+    let next = bit_writer::push(buf, w, limit, c.bits, c.count);
+    Coder { out: next, n: c.to }
+}
+
+// Plane k: its n first bits as they are, then a test, if places are left.
+fn put_plane(
+    words: &[u64],
+    ors: &[u64],
+    k: u32,
+    n: usize,
+    buf: &mut [u8],
+    w: Pending,
+    limit: usize,
+) -> Coder
+    requires { ⌜ (k < 64) × OnesFrom (now ors) (now words) × (n ≤ length (now words)) × (length (now words) ≤ 256) × Ready w
+        × (limit ≤ 8 * length (now buf)) × (w .out .at + 2048 < 2 ^ 32) ⌝ }
+    ensures { λ r. ⌜ Advanced (now (buf .entry)) (now (buf .exit)) w limit
+        (planeCode n (plane k (now (words .entry)))) (planeNext n (plane k (now (words .entry)))) (r .out) (r .n) ⌝ }
+{
+    if words.len() <= 16 {
+        put_short(words, k, n, buf, w, limit)
+    } else {
+        put_long(words, ors, k, n, buf, w, limit)
     }
 }
 

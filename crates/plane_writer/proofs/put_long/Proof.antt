@@ -6,8 +6,8 @@ use Rattle.planes.specs.Coder.{plane, planeCode}
 use Rattle.planes.proofs.End.{next-end}
 use Rattle.plane_writer.proofs.Places.{first-length, test-end, test-none, next-past, ones-follow, one-end, none-end}
 use borrow.Author.Needs.{needs}
-use Rattle.plane_writer.proofs.put_plane.Statement.{statement}
-use Rattle.plane_writer.proofs.put_plane.Tie as tie
+use Rattle.plane_writer.proofs.put_long.Statement.{statement}
+use Rattle.plane_writer.proofs.put_long.Tie as tie
 
 verbatim-requires : tie.Need-verbatim-requires
 verbatim-requires c κs = search needs
@@ -78,8 +78,8 @@ returns-3 c =
       moved = omega (arith, next-end (a .n) d, none-end (a .k) (a .words .now) (a .n) none);
     }
 
-pub put-plane-spec : {M : Type 1} → statement M
-put-plane-spec =
+pub put-long-spec : {M : Type 1} → statement M
+put-long-spec =
     tie.close
     (tie.spec
     verbatim-requires
