@@ -15,7 +15,7 @@ use Rattle.bit_reader.specs.Calls.{place, Holds, Filled, shorter}
 use Rattle.bit_reader.proofs.Windows.{shorter-holds, next-bits}
 use Rattle.planes.specs.Calls.{addAt, Room}
 use Rattle.plane_reader.specs.Calls.{FirstRead}
-use Rattle.plane_reader.proofs.Adding.{add-none, add-append, room-after}
+use Rattle.part_reader.proofs.Adding.{add-none, add-append, room-after}
 
 -- the bits taken are within the n first bits and in the window, and fewer are left after them
 pub least-fits : {m : ℕ} (n i have : ℕ) → m ≡ min (n - i) have → i < n → (i + m ≤ n) × (m ≤ have)

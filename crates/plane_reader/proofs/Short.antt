@@ -18,8 +18,9 @@ use Rattle.bit_reader.specs.Calls.{place, Filled, Taken, shorter}
 use Rattle.bit_reader.proofs.Windows.{shorter-holds, unread, next-bits}
 use Rattle.planes.specs.Reader.{readTest, readPlane, readNext}
 use Rattle.planes.specs.Calls.{addAt}
-use Rattle.plane_reader.specs.Calls.{Part, partTest, PartRead, ShortRead, PlaneRead}
-use Rattle.plane_reader.proofs.Stages.{readStage, pushAll, ended, stage-last, Follows, test-follows, Takes, stage-takes}
+use Rattle.part_reader.specs.Calls.{Part, partTest, PartRead}
+use Rattle.plane_reader.specs.Calls.{ShortRead, PlaneRead}
+use Rattle.part_reader.proofs.Stages.{readStage, pushAll, ended, stage-last, Follows, test-follows, Takes, stage-takes}
 
 -- the number that the n first bits and a part after them make
 module _ {p : Part} {x′ to stage left : ℕ} (b n : ℕ) (r : PartRead p n (b % 2 ^ n) x′ to stage left) where

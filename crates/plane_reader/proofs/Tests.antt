@@ -15,9 +15,10 @@ use Rattle.bit_reader.specs.Calls.{place, Holds, Filled, shorter}
 use Rattle.bit_reader.proofs.Windows.{shorter-holds, unread}
 use Rattle.planes.specs.Reader.{Got}
 use Rattle.planes.specs.Calls.{addAt, Room}
-use Rattle.plane_reader.specs.Calls.{Part, partStage, PartRead, TestsRead}
-use Rattle.plane_reader.proofs.Adding.{add-none, add-append, room-after}
-use Rattle.plane_reader.proofs.Stages.{readStage, pushAll, ended, stage-same, stage-ended, stage-last, Follows, stage-follows, Takes, stage-takes}
+use Rattle.part_reader.specs.Calls.{Part, partStage, PartRead}
+use Rattle.plane_reader.specs.Calls.{TestsRead}
+use Rattle.part_reader.proofs.Adding.{add-none, add-append, room-after}
+use Rattle.part_reader.proofs.Stages.{readStage, pushAll, ended, stage-same, stage-ended, stage-last, Follows, stage-follows, Takes, stage-takes}
 
 -- what is read so far, with g read from here, gives G from n on
 pub record Going (ws₀ ws : List ℕ) (k n i : ℕ) (G g : Got) : Type 0 where

@@ -1,5 +1,5 @@
 -- The invariant: what is left of the plane, read from here, gives with what is done what all of it gives. Assumes nothing.
-use Rattle.plane_reader.proofs.Stages.{readStage}
+use Rattle.part_reader.proofs.Stages.{readStage}
 use Rattle.plane_reader.proofs.Tests.{Going, going-none, going-ended, going-last, PartDone, part-done, part-room, part-going}
 use Rattle.planes.specs.Reader.{readTest}
 use Rattle.planes.specs.Calls.{Room}

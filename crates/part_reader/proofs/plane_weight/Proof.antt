@@ -3,8 +3,8 @@ use lib.Pow.{pow-lt}
 use native.Mathlib.Nat.{one-mul, mod-eq-of-lt}
 use Prim.Native.Nat.{_^_, _<_}
 use borrow.Author.Needs.{needs}
-use Rattle.plane_reader.proofs.plane_weight.Statement.{statement}
-use Rattle.plane_reader.proofs.plane_weight.Tie as tie
+use Rattle.part_reader.proofs.plane_weight.Statement.{statement}
+use Rattle.part_reader.proofs.plane_weight.Tie as tie
 
 shl-result : tie.Need-shl-result
 shl-result c = search needs

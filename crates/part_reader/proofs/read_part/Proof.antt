@@ -3,8 +3,8 @@ use native.Mathlib.Omega.{arith}
 use Prim.Native.Nat.{suc, _-_}
 use mathlib.Core.Path.{_≡_}
 use borrow.Author.Needs.{needs}
-use Rattle.plane_reader.proofs.read_part.Statement.{statement}
-use Rattle.plane_reader.proofs.read_part.Tie as tie
+use Rattle.part_reader.proofs.read_part.Statement.{statement}
+use Rattle.part_reader.proofs.read_part.Tie as tie
 
 read-test-requires : tie.Need-read-test-requires
 read-test-requires c κs = search needs

@@ -4,8 +4,8 @@ use lib.Pow.{pow-lt}
 use native.Mathlib.Nat.{lt-of-le-of-lt}
 use Prim.Native.Nat.{_^_}
 use borrow.Author.Needs.{needs}
-use Rattle.plane_reader.proofs.weighted_bit.Statement.{statement}
-use Rattle.plane_reader.proofs.weighted_bit.Tie as tie
+use Rattle.part_reader.proofs.weighted_bit.Statement.{statement}
+use Rattle.part_reader.proofs.weighted_bit.Tie as tie
 
 bit-value-requires : tie.Need-bit-value-requires
 bit-value-requires c κs = search needs

@@ -3,8 +3,8 @@ use Rattle.bits.proofs.NumberLaws.{digit-times}
 use native.Mathlib.Omega.{arith}
 use Prim.Native.Nat.{_^_}
 use borrow.Author.Needs.{needs}
-use Rattle.plane_reader.proofs.add_bit.Statement.{statement}
-use Rattle.plane_reader.proofs.add_bit.Tie as tie
+use Rattle.part_reader.proofs.add_bit.Statement.{statement}
+use Rattle.part_reader.proofs.add_bit.Tie as tie
 
 mul-words : tie.Need-mul-words
 mul-words c = search needs

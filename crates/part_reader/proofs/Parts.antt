@@ -11,7 +11,7 @@ use lib.Dec.{eqb}
 use lib.ListN.{length}
 use Rattle.bits.specs.Stream.{numberBits}
 use Rattle.bits.proofs.NumberLaws.{length-numberBits}
-use Rattle.plane_reader.specs.Calls.{Part, ends, pushed, partTest, partScan, PartRead}
+use Rattle.part_reader.specs.Calls.{Part, ends, pushed, partTest, partScan, PartRead}
 
 -- nothing more is read
 part-ends : (g : ℕ) (t : List Bool) (from x left : ℕ) → left ≡ length t → PartRead (ends g t) from x x from g left

@@ -1,5 +1,5 @@
 -- The invariant: the bits that are left, added from here, give what all of them give from place i. Assumes nothing.
-use Rattle.plane_reader.proofs.Adding.{add-none, add-cons, add-zeros, room-here, room-set}
+use Rattle.part_reader.proofs.Adding.{add-none, add-cons, add-zeros, room-here, room-set}
 use Rattle.planes.specs.Calls.{addAt, Room}
 use Rattle.bits.specs.Stream.{numberBits}
 use lib.ListN.{length, drop}
@@ -9,8 +9,8 @@ use native.Mathlib.Nat.{div-one}
 use Prim.Native.Nat.{suc, _≤_, _<_, _-_, _+_, _/_, _^_}
 use mathlib.Core.Path.{_≡_, refl, sym, _∙_}
 use borrow.Author.Needs.{needs}
-use Rattle.plane_reader.proofs.add_bits.Statement.{statement}
-use Rattle.plane_reader.proofs.add_bits.Tie as tie
+use Rattle.part_reader.proofs.add_bits.Statement.{statement}
+use Rattle.part_reader.proofs.add_bits.Tie as tie
 
 abbrev Inv-loop : tie.InvT-loop
 Inv-loop words₀ k i count x j₀ words j =

@@ -10,7 +10,7 @@ use lib.Dec.{eqb}
 use lib.ListN.{length, drop}
 use Rattle.bits.specs.Stream.{digit}
 use Rattle.planes.specs.Reader.{Got, stop, push, readTest, readScan}
-use Rattle.plane_reader.specs.Calls.{Part, ends, pushed, partTest, partScan, partStage}
+use Rattle.part_reader.specs.Calls.{Part, ends, pushed, partTest, partScan, partStage}
 
 -- the rest of a plane, with r places left, from a stage on
 abbrev pub readStage : ℕ → List Bool → ℕ → Got

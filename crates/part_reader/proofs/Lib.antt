@@ -1,0 +1,4 @@
+-- The laws of reading a part of a plane.
+pub mod Parts
+pub mod Adding
+pub mod Stages

@@ -1,0 +1,154 @@
+// Parts of a plane, read as numbers: the tests and scans of at most 16 places, and the bits that they find, added to the words.
+ghost use mathlib.Core.Path.{_≡_};
+ghost use Prim.Native.Nat.{suc, _+_, _*_, _^_, _≤_, _<_};
+ghost use lib.ListN.{length, drop, getD, set};
+ghost use Rattle.bits.specs.Stream.{digit, numberBits};
+ghost use Rattle.planes.specs.Calls.{addAt, Room};
+ghost use Rattle.part_reader.specs.Calls.{partTest, partScan, partStage, PartRead};
+
+// What comes next in a plane: a test, the rest of a scan, or nothing, as the plane is done or the budget cuts it.
+pub const TEST: u32 = 0;
+
+pub const SCAN: u32 = 1;
+
+pub const DONE: u32 = 2;
+
+pub const CUT: u32 = 3;
+
+pub fn plane_weight(k: u32) -> u64
+    requires { ⌜ k < 64 ⌝ }
+    ensures { λ r. ⌜ r ≡ 2 ^ k ⌝ }
+{
+    1u64 << k
+}
+
+fn bit_value(b: bool) -> u64
+    ensures { λ r. ⌜ r ≡ digit b ⌝ }
+{
+    b as u64
+}
+
+// Bit b as a number, at plane k.
+fn weighted_bit(b: bool, k: u32) -> u64
+    requires { ⌜ k < 64 ⌝ }
+    ensures { λ r. ⌜ r ≡ digit b * 2 ^ k ⌝ }
+{
+    bit_value(b) * plane_weight(k)
+}
+
+// Bit b in plane k of word i, with no branch on it.
+fn add_bit(words: &mut [u64], k: u32, i: usize, b: bool)
+    requires { ⌜ (k < 64) × (i < length (now words)) × (getD (now words) i 0 + 2 ^ k < 2 ^ 64) ⌝ }
+    ensures { λ _. ⌜ now (words .exit) ≡ set (now (words .entry)) i (getD (now (words .entry)) i 0 + digit b * 2 ^ k) ⌝ }
+{
+    words[i] = words[i] + weighted_bit(b, k);
+}
+
+// The test at place `from` of a part, with m places left, in the `have` bits of s: a 0, or the end of the bits, ends the plane; a 1 is followed by a scan.
+// The ones found are added to x, and `to` is the place after the last one passed. The result is how many bits are left.
+pub fn read_test(
+    s: u64,
+    have: u32,
+    m: u32,
+    known: u32,
+    from: u32,
+    x: &mut u64,
+    to: &mut u32,
+    stage: &mut u32,
+) -> u32
+    requires { ⌜ (from + m ≤ 16) × (now x < 2 ^ from) ⌝ }
+    ensures { λ r. ⌜ PartRead (partTest (numberBits have s) m known) from (now (x .entry)) (now (x .exit)) (now (to .exit)) (now (stage .exit)) r ⌝ }
+{
+    if m == 0 {
+        *to = from;
+        *stage = TEST;
+        return have;
+    }
+    if have == 0 {
+        *to = from;
+        *stage = CUT;
+        return 0;
+    }
+    if s % 2 == 1 {
+        read_scan(s / 2, have - 1, m, known, from, x, to, stage)
+    } else {
+        *to = from;
+        *stage = DONE;
+        have - 1
+    }
+}
+
+// The scan from place `from` on: zeros up to a one, which another test follows; the one is known with `known` places left. Where the bits end before
+// it is found, it is set at the place that the scan has come to.
+fn read_scan(
+    s: u64,
+    have: u32,
+    m: u32,
+    known: u32,
+    from: u32,
+    x: &mut u64,
+    to: &mut u32,
+    stage: &mut u32,
+) -> u32
+    requires { ⌜ (from + m ≤ 16) × (now x < 2 ^ from) ⌝ }
+    ensures { λ r. ⌜ PartRead (partScan (numberBits have s) m known) from (now (x .entry)) (now (x .exit)) (now (to .exit)) (now (stage .exit)) r ⌝ }
+{
+    if m == 0 {
+        *to = from;
+        *stage = SCAN;
+        return have;
+    }
+    if m == known {
+        *x = *x + plane_weight(from);
+        *to = from + 1;
+        *stage = DONE;
+        return have;
+    }
+    if have == 0 {
+        *x = *x + plane_weight(from);
+        *to = from + 1;
+        *stage = CUT;
+        return 0;
+    }
+    if s % 2 == 1 {
+        *x = *x + plane_weight(from);
+        read_test(s / 2, have - 1, m - 1, known, from + 1, x, to, stage)
+    } else {
+        read_scan(s / 2, have - 1, m - 1, known, from + 1, x, to, stage)
+    }
+}
+
+// A part of m places, from its first on, in the stage that is told.
+pub fn read_part(
+    s: u64,
+    have: u32,
+    m: u32,
+    known: u32,
+    x: &mut u64,
+    to: &mut u32,
+    stage: &mut u32,
+) -> u32
+    requires { ⌜ (m ≤ 16) × (now x ≡ 0) ⌝ }
+    ensures { λ r. ⌜ PartRead (partStage (now (stage .entry)) (numberBits have s) m known) 0 0 (now (x .exit)) (now (to .exit)) (now (stage .exit)) r ⌝ }
+{
+    if *stage == TEST {
+        read_test(s, have, m, known, 0, x, to, stage)
+    } else {
+        read_scan(s, have, m, known, 0, x, to, stage)
+    }
+}
+
+// The `count` lowest bits of x in plane k of the words from place i on.
+pub fn add_bits(words: &mut [u64], k: u32, i: usize, count: usize, x: u64)
+    requires { ⌜ (k < 64) × (i + count ≤ length (now words)) × (count ≤ 64) × Room 64 (suc k) (drop i (now words)) ⌝ }
+    ensures { λ _. ⌜ now (words .exit) ≡ addAt i k (numberBits count x) (now (words .entry)) ⌝ }
+{
+    if x == 0 {
+        return;
+    }
+    let mut j = 0;
+    while j < count {
+        add_bit(words, k, i + j, (x >> j) % 2 == 1);
+        j += 1;
+    }
+}
