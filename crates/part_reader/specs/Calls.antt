@@ -2,10 +2,11 @@
 use mathlib.Core.Path.{_≡_}
 use mathlib.Core.Bool.{Bool, true, false, cond}
 use mathlib.Core.List.{List, [], _∷_}
-use Prim.Native.Nat.{ℕ, zero, suc, _+_, _*_, _^_}
+use Prim.Native.Nat.{ℕ, zero, suc, _+_, _*_, _/_, _%_, _^_}
 use lib.Dec.{eqb}
-use lib.ListN.{length}
+use lib.ListN.{length, take, drop}
 use Rattle.bits.specs.Stream.{numberOf}
+use Rattle.planes.specs.Reader.{addPlane}
 
 -- what reading a part gives: the bits of the places passed, the bits left, and the stage that follows:
 -- 0 a test, 1 the rest of a scan, 2 nothing, as the plane is done, 3 nothing, as the budget cuts it
@@ -51,3 +52,14 @@ pub record PartRead (p : Part) (from x x′ to stage′ left′ : ℕ) : Type 0 
   pub moved : to ≡ from + length (p .bits)
   pub stage : stage′ ≡ p .stage
   pub left : left′ ≡ length (p .rest)
+
+-- ---- planes that are their bits as they are
+
+-- the words with m planes of N bits each added, from plane k + m - 1 down to plane k
+abbrev pub addPlanes : ℕ → ℕ → ℕ → List Bool → List ℕ → List ℕ
+addPlanes N zero k s ws = ws
+addPlanes N (suc m) k s ws = addPlanes N m k (drop N s) (addPlane (k + m) (take N s) ws)
+
+-- the bits at places 0, 4, 8 and 12 of a number, the first of them highest
+abbrev pub column : ℕ → ℕ
+column x = x % 2 * 8 + x / 16 % 2 * 4 + x / 256 % 2 * 2 + x / 4096 % 2

@@ -1,10 +1,10 @@
 // Parts of a plane, read as numbers: the tests and scans of at most 16 places, and the bits that they find, added to the words.
 ghost use mathlib.Core.Path.{_≡_};
-ghost use Prim.Native.Nat.{suc, _+_, _*_, _^_, _≤_, _<_};
+ghost use Prim.Native.Nat.{suc, _+_, _*_, _/_, _^_, _≤_, _<_};
 ghost use lib.ListN.{length, drop, getD, set};
 ghost use Rattle.bits.specs.Stream.{digit, numberBits};
 ghost use Rattle.planes.specs.Calls.{addAt, Room};
-ghost use Rattle.part_reader.specs.Calls.{partTest, partScan, partStage, PartRead};
+ghost use Rattle.part_reader.specs.Calls.{partTest, partScan, partStage, PartRead, addPlanes, column};
 
 // What comes next in a plane: a test, the rest of a scan, or nothing, as the plane is done or the budget cuts it.
 pub const TEST: u32 = 0;
@@ -151,4 +151,30 @@ pub fn add_bits(words: &mut [u64], k: u32, i: usize, count: usize, x: u64)
         add_bit(words, k, i + j, (x >> j) % 2 == 1);
         j += 1;
     }
+}
+
+// The four bits of x at places 0, 4, 8 and 12, as a number, the first of them highest.
+fn gathered(x: u64) -> u64
+    ensures { λ r. ⌜ r ≡ column x ⌝ }
+{
+    x % 2 * 8 + x / 16 % 2 * 4 + x / 256 % 2 * 2 + x / 4096 % 2
+}
+
+// Bits k + 3 down to k of word i: the bits at places i, i + 4, i + 8 and i + 12 of v.
+fn add_column(words: &mut [u64], k: u32, i: usize, v: u64)
+    requires { ⌜ (k + 4 ≤ 64) × (i < length (now words)) × (i < 64) × (getD (now words) i 0 + 2 ^ (k + 4) ≤ 2 ^ 64) ⌝ }
+    ensures { λ _. ⌜ now (words .exit) ≡ set (now (words .entry)) i (getD (now (words .entry)) i 0 + column (v / 2 ^ i) * 2 ^ k) ⌝ }
+{
+    words[i] = words[i] + gathered(v >> i) * plane_weight(k);
+}
+
+// The planes k + 3 down to k of four words, which are the 16 lowest bits of v.
+pub fn add_four(words: &mut [u64], k: u32, v: u64)
+    requires { ⌜ (length (now words) ≡ 4) × (k + 4 ≤ 64) × Room 64 (k + 4) (now words) ⌝ }
+    ensures { λ _. ⌜ now (words .exit) ≡ addPlanes 4 4 k (numberBits 16 v) (now (words .entry)) ⌝ }
+{
+    add_column(words, k, 0, v);
+    add_column(words, k, 1, v);
+    add_column(words, k, 2, v);
+    add_column(words, k, 3, v);
 }
