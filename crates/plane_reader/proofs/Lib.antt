@@ -3,3 +3,4 @@ pub mod First
 pub mod Tests
 pub mod Short
 pub mod Reading
+pub mod Runs

@@ -1,16 +1,16 @@
 -- What the reader's steps do.
 use mathlib.Core.Path.{_≡_}
-use mathlib.Core.Bool.{Bool}
+use mathlib.Core.Bool.{Bool, true, false}
 use mathlib.Core.List.{List, _++_}
-use Prim.Native.Nat.{ℕ, _+_, _-_, _≤_}
+use Prim.Native.Nat.{ℕ, _+_, _-_, _≤_, _<_}
 use lib.Dec.{leb, ltb}
-use lib.ListN.{length, take, drop}
+use lib.ListN.{length, take, drop, replicate}
 use lib.Seq.{slice}
 use Rattle.bits.specs.Stream.{numberBits}
 use Rattle.bit_reader.specs.declared.Window.{Window}
 use Rattle.bit_reader.specs.Calls.{place, Holds, shorter}
-use Rattle.planes.specs.Reader.{Got, readPlane, readNext, addPlane, readWords, wholePlanes}
-use Rattle.planes.specs.Calls.{addAt, restPlanes}
+use Rattle.planes.specs.Reader.{Got, readPlane, readNext, addPlane, readFrom, readWords, wholeFrom, wholePlanes}
+use Rattle.planes.specs.Calls.{addAt, Room, restFrom, restPlanes}
 use Rattle.part_reader.specs.Calls.{Part}
 
 -- what reading at n of plane k does: g's bits go into the words, and the window stands before g's rest
@@ -43,6 +43,32 @@ pub record PlaneRead (ws ws′ : List ℕ) (k n : ℕ) (d : List Bool) (at end :
   pub holds : Holds d end w
   pub left : slice (place w) end d ≡ readPlane (length ws) n (slice at end d) .rest
   pub whole : whole′ ≡ readPlane (length ws) n (slice at end d) .whole
+
+-- r planes of N places that are a single 0 each, which a window has; with no places a plane has no bits
+pub record EmptyPlanes (w : Window) (p N r : ℕ) : Type 0 where
+  pub zeros : numberBits r (w .bits) ≡ replicate r false
+  pub few : r ≤ w .count
+  pub most : r ≤ p
+  pub some : 0 < r → 0 < N
+
+-- what reading whole planes from plane k - 1 down to plane k′ does: those from there on down to `base`, read from here, give, leave and count with
+-- these what all of them do, read from n and the bits s on
+pub record Whole (base : ℕ) (ws : List ℕ) (k n : ℕ) (s : List Bool) (ws′ : List ℕ) (k′ n′ : ℕ) (s′ : List Bool) : Type 0 where
+  pub below : k′ ≤ k
+  pub above : base ≤ k′
+  pub long : length ws′ ≡ length ws
+  pub within : n′ ≤ length ws
+  pub room : Room 64 k′ ws′
+  pub words : readFrom k′ (k′ - base) n′ ws′ s′ ≡ readFrom k (k - base) n ws s
+  pub left : restFrom (length ws) (k′ - base) n′ s′ ≡ restFrom (length ws) (k - base) n s
+  pub count : k - k′ + wholeFrom (length ws) (k′ - base) n′ s′ ≡ wholeFrom (length ws) (k - base) n s
+
+-- what reading some planes at n from plane k - 1 downward does: they are whole, or the budget cuts the only one
+pub record SomeRead (base : ℕ) (ws ws′ : List ℕ) (k n : ℕ) (d : List Bool) (at end : ℕ) (w : Window) (n′ k′ : ℕ) (whole′ : Bool) : Type 0 where
+  pub holds : Holds d end w
+  pub less : k′ < k
+  pub whole : whole′ ≡ true → Whole base ws k n (slice at end d) ws′ k′ n′ (slice (place w) end d)
+  pub cut : whole′ ≡ false → (k′ ≡ k - 1) × PlaneRead ws ws′ (k - 1) n d at end w n′ false
 
 -- what reading p planes of N words of w bits does: where it stopped, and how many planes were whole
 pub record PlanesRead (w : ℕ) (ws′ : List ℕ) (N p : ℕ) (d : List Bool) (at end at′ whole′ : ℕ) : Type 0 where
