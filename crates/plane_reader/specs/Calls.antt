@@ -44,7 +44,7 @@ pub record PlaneRead (ws ws′ : List ℕ) (k n : ℕ) (d : List Bool) (at end :
   pub left : slice (place w) end d ≡ readPlane (length ws) n (slice at end d) .rest
   pub whole : whole′ ≡ readPlane (length ws) n (slice at end d) .whole
 
--- r planes of N places that are a single 0 each, which a window has; with no places a plane has no bits
+-- r of at most p planes of N places that are a single 0 each, the first bits of a window; with no places a plane has no bits
 pub record EmptyPlanes (w : Window) (p N r : ℕ) : Type 0 where
   pub zeros : numberBits r (w .bits) ≡ replicate r false
   pub few : r ≤ w .count
