@@ -4,12 +4,11 @@ use mathlib.Core.List.{List, [], _∷_}
 use Prim.Native.Nat.{ℕ, zero, suc, _+_, _*_, _/_, _%_, _^_, _≤_, _<_}
 use native.Mathlib.Nat.{add-zero, div-div-eq-div-mul, div-one, mul-le-mul-right}
 use native.Mathlib.Omega.{arith}
-use lib.Dec.{eqb}
 use lib.ListN.{length, getD, set}
 use lib.Pow.{pow-add, pow-pos}
 use lib.Seq.{getD-set-other}
-use Rattle.bits.specs.Stream.{digit, numberBits}
-use Rattle.bits.proofs.NumberLaws.{digit-odd}
+use Rattle.bits.specs.Stream.{bit, digit, numberBits}
+use Rattle.bits.proofs.NumberLaws.{digit-odd, digit-lt}
 use Rattle.planes.specs.Calls.{Room}
 use Rattle.part_reader.specs.Calls.{addPlanes, column}
 
@@ -24,8 +23,18 @@ pub room-after-column : {ws′ : List ℕ} (k v i j : ℕ) (ws : List ℕ) → i
     → getD ws j 0 + 2 ^ (k + 4) ≤ 2 ^ 64 → getD ws′ j 0 + 2 ^ (k + 4) ≤ 2 ^ 64
 room-after-column k v i j ws h e r = rw (e, getD-set-other ws i j (getD ws i 0 + column (v / 2 ^ i) * 2 ^ k) 0 (omega arith)) r
 
+pub column-sum : (x : ℕ) → x % 2 * 8 + x / 16 % 2 * 4 + x / 256 % 2 * 2 + x / 4096 % 2 ≡ column x
+column-sum x =
+    rw (
+      div-one,
+      digit-odd (x % 2) (omega arith),
+      digit-odd (x / 16 % 2) (omega arith),
+      digit-odd (x / 256 % 2) (omega arith),
+      digit-odd (x / 4096 % 2) (omega arith),
+    )
+
 pub column-lt : (x : ℕ) → column x < 16
-column-lt x = omega arith
+column-lt x = omega (arith, digit-lt (bit 0 x), digit-lt (bit 4 x), digit-lt (bit 8 x), digit-lt (bit 12 x))
 
 -- four bits fit into the room for four planes
 pub four-fit : (a c k : ℕ) → c < 16 → a + 2 ^ (k + 4) ≤ 2 ^ 64 → a + c * 2 ^ k < 2 ^ 64
@@ -39,16 +48,8 @@ column-parts a k p q r t = rw (pow-add 2 k 3, pow-add 2 k 2, pow-add 2 k 1, add-
 
 column-word : (a k x : ℕ)
     → a + column x * 2 ^ k
-    ≡ a + digit (eqb (x % 2) 1) * 2 ^ (k + 3) + digit (eqb (x / 16 % 2) 1) * 2 ^ (k + 2) + digit (eqb (x / 256 % 2) 1) * 2 ^ (k + 1)
-    + digit (eqb (x / 4096 % 2) 1) * 2 ^ (k + 0)
-column-word a k x =
-    rw (
-      digit-odd (x % 2) (omega arith),
-      digit-odd (x / 16 % 2) (omega arith),
-      digit-odd (x / 256 % 2) (omega arith),
-      digit-odd (x / 4096 % 2) (omega arith),
-    )
-    (column-parts a k (x % 2) (x / 16 % 2) (x / 256 % 2) (x / 4096 % 2))
+    ≡ a + digit (bit 0 x) * 2 ^ (k + 3) + digit (bit 4 x) * 2 ^ (k + 2) + digit (bit 8 x) * 2 ^ (k + 1) + digit (bit 12 x) * 2 ^ (k + 0)
+column-word a k x = column-parts a k (digit (bit 0 x)) (digit (bit 4 x)) (digit (bit 8 x)) (digit (bit 12 x))
 
 -- the four words, one after the other
 pub four-added : {ws₁ ws₂ ws₃ ws₄ : List ℕ} (k v : ℕ) (ws : List ℕ) → length ws ≡ 4

@@ -2,10 +2,10 @@
 use mathlib.Core.Path.{_≡_}
 use mathlib.Core.Bool.{Bool, true, false, cond}
 use mathlib.Core.List.{List, [], _∷_}
-use Prim.Native.Nat.{ℕ, zero, suc, _+_, _*_, _/_, _%_, _^_}
+use Prim.Native.Nat.{ℕ, zero, suc, _+_, _*_, _^_}
 use lib.Dec.{eqb}
 use lib.ListN.{length, take, drop}
-use Rattle.bits.specs.Stream.{numberOf}
+use Rattle.bits.specs.Stream.{bit, digit, numberOf}
 use Rattle.planes.specs.Reader.{addPlane}
 
 -- what reading a part gives: the bits of the places passed, the bits left, and the stage that follows:
@@ -62,4 +62,4 @@ addPlanes N (suc m) k s ws = addPlanes N m k (drop N s) (addPlane (k + m) (take 
 
 -- the bits at places 0, 4, 8 and 12 of a number, the first of them highest
 abbrev pub column : ℕ → ℕ
-column x = x % 2 * 8 + x / 16 % 2 * 4 + x / 256 % 2 * 2 + x / 4096 % 2
+column x = digit (bit 0 x) * 8 + digit (bit 4 x) * 4 + digit (bit 8 x) * 2 + digit (bit 12 x)
