@@ -2,7 +2,7 @@
 use mathlib.Core.Path.{_≡_, refl, sym, ap, _∙_, subst}
 use Prim.Native.Nat.{ℕ, _+_, _-_, _*_, _/_, _%_, _^_, _≤_, _<_, compare, Ordering, Ordering·lt, Ordering·eq, Ordering·gt}
 use native.Mathlib.Numerals.{add-one}
-use native.Mathlib.Nat.{le-trans, mod-lt, le-div-iff-mul-le, mul-le-mul-left, div-mul-le-self, mul-one}
+use native.Mathlib.Nat.{le-trans, mod-lt, le-div-iff-mul-le, mul-le-mul-left, div-mul-le-self}
 use native.Mathlib.Decide.{decLe}
 use native.Mathlib.Omega.{arith}
 use mathlib.Core.Bool.{not}
@@ -87,19 +87,8 @@ module _ (a b : ℕ) where
 pub at-most-half : (a b : ℕ) → 2 ≤ b → a / b ≤ a / 2
 at-most-half a b h = le-div-iff-mul-le {k = 2} {x = a / b} {y = a} (omega arith) .1 (le-trans (mul-le-mul-left (a / b) h) (div-mul-le-self a b))
 
--- by 1
-pub by-one : (a : ℕ) → closest a 1 ≡ a
-by-one a = sym (down a 1 (omega arith)) ∙ omega arith
-
-module _ (g p l : ℕ) where
-  -- l digits held to p of them: no digit is lost, or some are
-  pub held-left : l ≤ p → closest (g * 2 ^ p) (2 ^ l) ≡ g * 2 ^ (p - l)
-  held-left h =
-      closest-same (g * 2 ^ p) (2 ^ l) (g * 2 ^ (p - l)) 1 (pow-pos l) (omega arith)
-      (mul-one (g * 2 ^ p) ∙ sym (mul-pow g (p - l) l ∙ ap (λ (x : ℕ). g * 2 ^ x) (omega arith)))
-      ∙ by-one (g * 2 ^ (p - l))
-
-  pub held-right : p < l → closest g (2 ^ (l - p)) ≡ closest (g * 2 ^ p) (2 ^ l)
-  held-right h =
-      closest-same g (2 ^ (l - p)) (g * 2 ^ p) (2 ^ l) (pow-pos (l - p)) (pow-pos l)
-      (sym (mul-pow g p (l - p) ∙ ap (λ (x : ℕ). g * 2 ^ x) (omega arith)))
+-- l digits held to p of them, moved up to the top of w bits first
+pub held-at : (g p l w : ℕ) → p ≤ w → l ≤ w → closest (g * 2 ^ (w - l)) (2 ^ (w - p)) ≡ closest (g * 2 ^ p) (2 ^ l)
+held-at g p l w h k =
+    closest-same (g * 2 ^ (w - l)) (2 ^ (w - p)) (g * 2 ^ p) (2 ^ l) (pow-pos (w - p)) (pow-pos l)
+    (mul-pow g (w - l) l ∙ ap (λ (x : ℕ). g * 2 ^ x) (omega arith) ∙ sym (mul-pow g p (w - p)))

@@ -21,17 +21,14 @@ fn half_even(a: u64, b: u64) -> u64
     if b < r * 2 + q % 2 { q + 1 } else { q }
 }
 
-// The digits of a number of l digits, held to the precision: g times 2^(precision - l), rounded once.
+// The digits of a number of l digits, held to the precision: g times 2^(precision - l), rounded once. The number is moved up to the top of the word, so that
+// one quotient, by the same power for every l, is rounded.
 fn kept(size: u32, g: u64, l: u32) -> u64
-    requires { ⌜ Size size × (g < 2 ^ l) × (l ≤ 64) ⌝ }
+    requires { ⌜ Size size × (g < 2 ^ l) × (1 ≤ l) × (l ≤ 64) ⌝ }
     ensures { λ r. ⌜ r ≡ closest (g * 2 ^ prec (formatOf size)) (2 ^ l) ⌝ }
 {
-    let p = floats::fraction_bits(size) + 1;
-    if l <= p {
-        g << (p - l)
-    } else {
-        half_even(g, 1u64 << (l - p))
-    }
+    let low = 63 - floats::fraction_bits(size);
+    half_even(g << (64 - l), 1u64 << low)
 }
 
 // The magnitude g times 2^(e - 157), or 2^(e - 1085) at 64 bits, rounded once: its pattern. The largest is the infinity's.

@@ -88,7 +88,9 @@ shl-b c = search needs
 kept-requires : tie.Need-kept-requires
 kept-requires c κs =
     let s = c .before .before .before in
-    (s .pre .0, hi (formatOf (s .args .size)) (s .args .g) (s .args .e) (c .before .before .if1 .left) (fits s), omega arith)
+    let f = formatOf (s .args .size) in
+    let some = c .before .before .if1 .left in
+    (s .pre .0, hi f (s .args .g) (s .args .e) some (fits s), digits-pos f (s .args .g) (s .args .e) some (fits s), omega arith)
 
 -- the pattern before it is held to the infinity's
 whole : (c : tie.After-kept)
