@@ -5,14 +5,14 @@ use mathlib.Core.Bool.{Bool, true, false, cond}
 use mathlib.Core.List.{List, [], _++_}
 use Prim.Native.Nat.{ℕ, _+_, _-_, _*_, _^_, _≤_, _<_}
 use lib.Ieee.{Format, ones}
-use lib.ListN.{length, getD, drop}
+use lib.ListN.{length, getD}
 use Rattle.bits.specs.Stream.{numberBits}
 use Rattle.params.specs.Dimension.{Dimension}
 use Rattle.words.specs.Word.{flip}
 use Rattle.words.specs.Calls.{Size}
 use Rattle.planes.specs.Coder.{planesCode}
 use Rattle.blocks.specs.Coefficients.{coefficients}
-use Rattle.floats.specs.Pattern.{wordSize, fieldBits, exponentField}
+use Rattle.floats.specs.Pattern.{wordSize, exponentField}
 use Rattle.floats.specs.Calls.{formatOf}
 use Rattle.floats.specs.Integer.{toInteger}
 use Rattle.rounding.specs.Rounded.{toPattern}
@@ -20,9 +20,9 @@ use Rattle.codec.specs.declared.change.Change.{Change}
 use Rattle.codec.specs.declared.change.Change.the-variants.{ToInteger, ToPattern, Flip}
 use Rattle.codec.specs.Head.{exactPlanes}
 use Rattle.codec.specs.Code.{lossyPlanes, floatPlanes, exactIntegers, exactFloats}
-use Rattle.codec.specs.Read.{readIntegers, scaledBy, readCode}
-use Rattle.codec.specs.Depth.{wholeIntegers, wholeWritten, wholeCoefficients, wholeRead}
-use Rattle.codec.specs.Lowest.{planesCoded, planesHeaded, planesRead, unlessNone}
+use Rattle.codec.specs.Read.{readCode}
+use Rattle.codec.specs.Depth.{wholeIntegers, wholeWritten, wholeRead}
+use Rattle.codec.specs.Lowest.{planesCoded, planesRead, unlessNone}
 
 -- ---- blocks, and the bits that are read
 
@@ -85,13 +85,6 @@ abbrev pub wholeAt : Format → Bool → Bool → ℕ → ℕ → ℕ → ℕ �
 wholeAt f float exact d p lowest width ws = wholeWritten f float exact d (planesCoded f float exact d p lowest ws) width ws
 
 -- ---- what a reader makes of a slot's bits with a lowest exponent, and how many planes are whole
-
--- lossy floats from e on
-abbrev pub scaledTo : Format → ℕ → ℕ → ℕ → List Bool → List ℕ
-scaledTo f d p lowest s = scaledBy f (readIntegers f false d (planesHeaded f d p lowest s)) s
-
-abbrev pub wholeScaled : Format → ℕ → ℕ → ℕ → List Bool → ℕ
-wholeScaled f d p lowest s = wholeCoefficients f false (4 ^ d) (planesHeaded f d p lowest s) (drop (fieldBits f) s)
 
 -- a slot, by kind and mode
 abbrev pub readTo : Format → Bool → Bool → ℕ → ℕ → ℕ → List Bool → List ℕ

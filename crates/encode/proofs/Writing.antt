@@ -173,4 +173,5 @@ module _ {size p budget head bits k room : ℕ} {us : List ℕ} where
         × (whole ≡ wholeOf (formatOf size) exact p budget us)
     plan-given plan e count =
         let g = plan .given e in
-        rw (e, own, ← (g .1), ← (g .2)) (record { reached = rw zero-add at (reached-append (rw (g .0) at first) then); whole = λ x. absurd (true≢false (sym x)) }, count)
+        let both = rw zero-add at (reached-append (rw (g .0) at first) then) in
+        rw (e, own, ← (g .1), ← (g .2)) (record { reached = both; whole = λ x. absurd (true≢false (sym x)) }, count)

@@ -2,8 +2,7 @@
 use Rattle.floats.specs.Calls.{formatOf}
 use Rattle.decode.proofs.Reading.{exact-zero, exact-flips, exact-multiples, exponent-read}
 use native.Mathlib.Omega.{arith}
-use Prim.Native.Nat.{_+_, _*_, _≤_}
-use lib.ListN.{length}
+use Prim.Native.Nat.{_+_}
 use borrow.Author.Tests.{not-true, not-false}
 use Rattle.bits.specs.Stream.{bitsOf}
 use Rattle.bits.proofs.StreamLaws.{length-bitsOf}
@@ -20,7 +19,8 @@ returns c =
     let s = get .before .before in
     let a = s .args in
     let bs = bitsOf (a .buf .now) in
-    λ d lowest end h k. exact-zero (a .size) d (a .p) lowest bs (a .at) end (get .get .result) (omega (arith, k, length-bitsOf (a .buf .now))) (get .get .ensures)
+    let bytes = length-bitsOf (a .buf .now) in
+    λ d lowest end h k. exact-zero (a .size) d (a .p) lowest bs (a .at) end (get .get .result) (omega (arith, k, bytes)) (get .get .ensures)
     (omega arith) (not-true _ (c .if1 .taken))
 
 add-get : tie.Need-add-get
@@ -36,7 +36,8 @@ returns-2 c =
     let s = get .before .before in
     let a = s .args in
     let bs = bitsOf (a .buf .now) in
-    λ d lowest end h k. exact-flips (a .size) d (a .p) lowest bs (a .at) end (get .get .result) (omega (arith, k, length-bitsOf (a .buf .now))) (get .get .ensures)
+    let bytes = length-bitsOf (a .buf .now) in
+    λ d lowest end h k. exact-flips (a .size) d (a .p) lowest bs (a .at) end (get .get .result) (omega (arith, k, bytes)) (get .get .ensures)
     (omega arith) (second .get2 .result) (second .get2 .ensures) (omega arith) (not-false _ (second .before .if1 .left)) (c .if2 .taken)
 
 field-bits-requires : tie.Need-field-bits-requires
@@ -59,8 +60,9 @@ returns-3 c =
     let s = get .before .before in
     let a = s .args in
     let bs = bitsOf (a .buf .now) in
-    let small = exponent-read (formatOf (a .size)) bs (a .at + 2) _ _ (c .get-number .ensures) (omega (arith, field .0, s .pre .1, length-bitsOf (a .buf .now))) (field .2) in
-    λ d lowest end h k. exact-multiples (a .size) d (a .p) lowest bs (a .at) end (get .get .result) (omega (arith, k, length-bitsOf (a .buf .now)))
+    let bytes = length-bitsOf (a .buf .now) in
+    let small = exponent-read (formatOf (a .size)) bs (a .at + 2) _ _ (c .get-number .ensures) (omega (arith, field .0, s .pre .1, bytes)) (field .2) in
+    λ d lowest end h k. exact-multiples (a .size) d (a .p) lowest bs (a .at) end (get .get .result) (omega (arith, k, bytes))
     (get .get .ensures) (omega arith) (second .get2 .result) (second .get2 .ensures) (omega arith) (not-false _ (second .before .if1 .left))
     (c .before .before .if2 .left) (field .0) (omega (arith, field .0)) (c .get-number .ensures) small
 

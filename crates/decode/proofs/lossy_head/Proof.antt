@@ -2,8 +2,7 @@
 use Rattle.floats.specs.Calls.{formatOf}
 use Rattle.decode.proofs.Reading.{lossy-zero, lossy-some, exponent-read}
 use native.Mathlib.Omega.{arith}
-use Prim.Native.Nat.{_+_, _*_, _≤_}
-use lib.ListN.{length}
+use Prim.Native.Nat.{_+_}
 use borrow.Author.Tests.{not-true, not-false}
 use Rattle.bits.specs.Stream.{bitsOf}
 use Rattle.bits.proofs.StreamLaws.{length-bitsOf}
@@ -20,7 +19,8 @@ returns c =
     let s = get .before .before in
     let a = s .args in
     let bs = bitsOf (a .buf .now) in
-    λ end h k. lossy-zero (a .size) (a .d) (a .p) (a .lowest) bs (a .at) end (get .get .result) (omega (arith, k, length-bitsOf (a .buf .now))) (get .get .ensures)
+    let bytes = length-bitsOf (a .buf .now) in
+    λ end h k. lossy-zero (a .size) (a .d) (a .p) (a .lowest) bs (a .at) end (get .get .result) (omega (arith, k, bytes)) (get .get .ensures)
     (omega arith) (not-true _ (c .if1 .taken))
 
 field-bits-requires : tie.Need-field-bits-requires
@@ -46,8 +46,9 @@ returns-2 c =
     let s = get .before .before in
     let a = s .args in
     let bs = bitsOf (a .buf .now) in
-    let small = exponent-read (formatOf (a .size)) bs (a .at + 1) _ _ (number .get-number .ensures) (omega (arith, field .0, s .pre .1, length-bitsOf (a .buf .now))) (field .2) in
-    λ end h k. lossy-some (a .size) (a .d) (a .p) (a .lowest) bs (a .at) end (get .get .result) (omega (arith, k, length-bitsOf (a .buf .now)))
+    let bytes = length-bitsOf (a .buf .now) in
+    let small = exponent-read (formatOf (a .size)) bs (a .at + 1) _ _ (number .get-number .ensures) (omega (arith, field .0, s .pre .1, bytes)) (field .2) in
+    λ end h k. lossy-some (a .size) (a .d) (a .p) (a .lowest) bs (a .at) end (get .get .result) (omega (arith, k, bytes))
     (get .get .ensures) (omega arith) (not-false _ (number .before .before .if1 .left)) (field .0) small (omega (arith, field .0)) (number .get-number .ensures)
     (c .planes-at .ensures)
 

@@ -1,11 +1,10 @@
 -- By the head. Assumes nothing.
-use mathlib.Core.Path.{_≡_, sym, _∙_}
+use mathlib.Core.Path.{sym, _∙_}
 use Rattle.decode.proofs.Reading.{block-zero, block-integers, block-floats}
 use Rattle.decode.specs.Calls.{Headed}
 use Rattle.bits.specs.Stream.{bitsOf}
 use borrow.Author.Tests.{not-true, not-false}
 use native.Mathlib.Omega.{arith}
-use Prim.Native.Nat.{_+_}
 use borrow.Author.Needs.{needs}
 use Rattle.decode.proofs.read_block.Statement.{statement}
 use Rattle.decode.proofs.read_block.Tie as tie
@@ -14,9 +13,10 @@ abbrev entry : tie.After-head-of → tie.Start
 entry c = c .before .before .before .before
 
 -- the head, of the slot that is read
-headed : (c : tie.After-head-of) → Headed (entry c .args .size) (entry c .args .float) (entry c .args .exact) (entry c .args .d) (entry c .args .p) (entry c .args .lowest)
-    (bitsOf (entry c .args .buf .now)) (entry c .args .at) (entry c .args .end) (c .head-of .result .bits) (c .head-of .result .planes) (c .head-of .result .p)
-    (c .head-of .result .how)
+headed : (c : tie.After-head-of)
+    → let a = entry c .args in
+    let head = c .head-of .result in
+    Headed (a .size) (a .float) (a .exact) (a .d) (a .p) (a .lowest) (bitsOf (a .buf .now)) (a .at) (a .end) (head .bits) (head .planes) (head .p) (head .how)
 headed c = let s = entry c in c .head-of .ensures (s .args .end) (omega (arith, s .pre .2 .room)) (s .pre .2 .within)
 
 head-of-requires : tie.Need-head-of-requires
@@ -70,7 +70,8 @@ returns-2 c =
     let head = read .before .before .before .before .before .before in
     let s = entry head in
     let r = read .read-integers .ensures in
-    block-integers (s .args .exact) (headed head) (not-false _ (read .before .before .before .before .if1 .left)) (r .0) (r .1) (r .2) (not-true _ (c .if2 .taken))
+    block-integers (s .args .exact) (headed head) (not-false _ (read .before .before .before .before .if1 .left)) (r .0) (r .1) (r .2)
+    (not-true _ (c .if2 .taken))
 
 to-words-requires : tie.Need-to-words-requires
 to-words-requires c κs =

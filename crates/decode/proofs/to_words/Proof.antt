@@ -15,7 +15,8 @@ coded-so-requires : tie.Need-coded-so-requires
 coded-so-requires c κs =
     let change = c .before .before .before .before in
     let copied = change .before .before .before .before in
-    (c .before .before .before .before .before .before .before .before .before .before .before .before .before .before .pre .0, change .change-all .ensures ∙ ap (map _) (sym (copied .copy .ensures)))
+    let s = copied .before .before .before .before .before .before in
+    (s .pre .0, change .change-all .ensures ∙ ap (map _) (sym (copied .copy .ensures)))
 
 same-length : tie.Need-same-length
 same-length c = search needs
@@ -27,7 +28,6 @@ returns : tie.Need-returns
 returns c =
     let change = c .before .before .before .before .before in
     let copied = change .before .before .before .before in
-    let s = change .before .before .before .before .before .before .before .before .before .before in
     (change .change-all .ensures, rw (copied .before .before .before .if1 .taken) (rw (copied .copy .ensures) at (c .coded-so .ensures)))
 
 change-all-requires-2 : tie.Need-change-all-requires-2

@@ -1,6 +1,6 @@
 -- `rounding::kept` meets its contract: moved up, the digits that do not fit are rounded off.
 use mathlib.Core.Path.{_≡_, ap, ap₂, _∙_}
-use Prim.Native.Nat.{ℕ, _+_, _-_, _*_, _^_, _≤_}
+use Prim.Native.Nat.{ℕ, _-_, _^_}
 use native.Mathlib.Omega.{arith}
 use lib.Ieee.{prec}
 use lib.Ieee.Nearest.{closest}
@@ -47,7 +47,8 @@ returns c =
     let low : 63 - k .fraction-bits .result ≡ 64 - p = omega (arith, k .fraction-bits .ensures .1) in
     let up = shl-exact (a .l) (64 - a .l) 64 (s .pre .1) (omega arith) in
     let by = one-shifted 64 (63 - k .fraction-bits .result) (omega arith) ∙ ap (λ (x : ℕ). 2 ^ x) low in
-    c .half-even .ensures ∙ ap₂ closest up by ∙ held-at (a .g) p (a .l) 64 (omega (arith, k .fraction-bits .ensures .1, k .fraction-bits .ensures .3)) (s .pre .3)
+    c .half-even .ensures ∙ ap₂ closest up by
+    ∙ held-at (a .g) p (a .l) 64 (omega (arith, k .fraction-bits .ensures .1, k .fraction-bits .ensures .3)) (s .pre .3)
 
 pub kept-spec : {M : Type 1} → statement M
 kept-spec =
