@@ -13,7 +13,7 @@ ghost use Rattle.floats.specs.Calls.{formatOf};
 ghost use Rattle.floats.specs.Integer.{toInteger};
 ghost use Rattle.rounding.specs.Rounded.{toPattern};
 ghost use Rattle.float_blocks.specs.Block.{blockExponent, allZero, allWhole};
-ghost use Rattle.codec.specs.declared.change.Change.the-variants.{ToInteger};
+ghost use Rattle.codec.specs.declared.change.Change.the-variants.{ToInteger, ToPattern};
 ghost use Rattle.codec.specs.Calls.{Ready};
 ghost use Rattle.codec.specs.Calls.Padded.{smallest, sameWords, multiples};
 use plane_reader::Planes;
@@ -60,21 +60,18 @@ fn same_integers(size: u32, e: u32, words: &[u64], ints: &[u64]) -> bool
     true
 }
 
-// Whether words that are the patterns of these integers at e are coded as multiples, with this e and these integers.
+// Whether words that are the patterns of these integers at e are coded as multiples, with this e and these integers. A pattern that comes back from its
+// integer is whole, so that is not asked.
 pub fn multiples(size: u32, e: u32, ints: &[u64], words: &[u64]) -> bool
-    requires { ⌜ Size size × (now words ≡ map (toPattern (formatOf size) e) (now ints)) ⌝ }
+    requires { ⌜ Size size × (now words ≡ map (toPattern (formatOf size) e) (now ints)) × Ready size (ToPattern e) (now ints) ⌝ }
     ensures { λ r. ⌜ r ≡ multiples (formatOf size) e (now (ints .entry)) ⌝ }
 {
     if float_blocks::all_zero(words) {
         return false;
     }
     let top = float_blocks::block_exponent(size, words);
-    if float_blocks::all_whole(size, top, words) {
-        if top == e {
-            same_integers(size, top, words, ints)
-        } else {
-            false
-        }
+    if top == e {
+        same_integers(size, e, words, ints)
     } else {
         false
     }

@@ -1,6 +1,5 @@
 -- The questions, one after the other. Assumes nothing.
-use Rattle.verify.proofs.Steps.{multiples-zero, multiples-not, multiples-other, multiples-same}
-use Rattle.codec.proofs.Ready.{ready-whole}
+use Rattle.verify.proofs.Steps.{multiples-zero, multiples-other, patterns-ready, multiples-same}
 use Rattle.float_blocks.specs.Block.{allZero}
 use Rattle.floats.specs.Calls.{formatOf}
 use lib.ListN.{length, length-map}
@@ -13,16 +12,13 @@ use Rattle.verify.proofs.multiples.Tie as tie
 abbrev entry : tie.After-all-zero → tie.Start
 entry c = c .before .before .before
 
--- what the second test follows: the exponent, and the first test
-abbrev at-exponent : tie.After-all-whole → tie.After-block-exponent
-at-exponent c = c .before
-
-abbrev at-zero : tie.After-all-whole → tie.After-all-zero
-at-zero c = at-exponent c .before .before
+-- the first test, seen from the exponent
+abbrev at-zero : tie.After-block-exponent → tie.After-all-zero
+at-zero c = c .before .before
 
 -- not all words are zero there
-some : (c : tie.After-all-whole) → allZero (entry (at-zero c) .args .words .now) ≡ false
-some c = sym (at-zero c .all-zero .ensures) ∙ at-exponent c .before .if1 .left
+some : (c : tie.After-block-exponent) → allZero (entry (at-zero c) .args .words .now) ≡ false
+some c = sym (at-zero c .all-zero .ensures) ∙ c .before .if1 .left
 
 all-zero-requires : tie.Need-all-zero-requires
 all-zero-requires c κs = search needs
@@ -36,46 +32,29 @@ returns c =
 block-exponent-requires : tie.Need-block-exponent-requires
 block-exponent-requires c κs = search needs
 
-all-whole-requires : tie.Need-all-whole-requires
-all-whole-requires c κs = search needs
-
 same-integers-requires : tie.Need-same-integers-requires
 same-integers-requires c κs =
-    let branch = c .before in
-    let test = branch .before in
-    let s = entry (at-zero test) in
-    let whole = sym (test .all-whole .ensures) ∙ branch .if2 .taken in (
+    let own = c .before in
+    let s = entry (at-zero own) in (
       s .pre .0,
       sym (ap length (s .pre .1) ∙ length-map (s .args .ints .now) _),
-      ready-whole (s .args .size) _ (s .args .words .now) (at-exponent test .block-exponent .ensures) whole,
+      patterns-ready (formatOf (s .args .size)) (s .args .e) (s .args .ints .now) (s .pre .1) _ (own .block-exponent .ensures) (c .if2 .taken) (s .pre .2),
     )
 
 returns-2 : tie.Need-returns-2
 returns-2 c =
-    let branch = c .before .before in
-    let test = branch .before in
-    let s = entry (at-zero test) in
-    let whole = sym (test .all-whole .ensures) ∙ branch .if2 .taken in
+    let own = c .before .before in
+    let s = entry (at-zero own) in
     c .same-integers .ensures
     ∙ sym (multiples-same (formatOf (s .args .size)) (s .args .e) (s .args .ints .now) (s .pre .1)
-    _ (at-exponent test .block-exponent .ensures) (some test) whole (c .before .if3 .taken))
+    _ (own .block-exponent .ensures) (c .before .if2 .taken) (s .pre .2) (some own))
 
 returns-3 : tie.Need-returns-3
 returns-3 c =
-    let branch = c .before in
-    let test = branch .before in
-    let s = entry (at-zero test) in
-    let whole = sym (test .all-whole .ensures) ∙ branch .if2 .taken in
+    let own = c .before in
+    let s = entry (at-zero own) in
     sym (multiples-other (formatOf (s .args .size)) (s .args .e) (s .args .ints .now) (s .pre .1)
-    _ (at-exponent test .block-exponent .ensures) (some test) whole (c .if3 .left))
-
-returns-4 : tie.Need-returns-4
-returns-4 c =
-    let test = c .before in
-    let s = entry (at-zero test) in
-    let not-whole = sym (test .all-whole .ensures) ∙ c .if2 .left in
-    sym (multiples-not (formatOf (s .args .size)) (s .args .e) (s .args .ints .now) (s .pre .1)
-    _ (at-exponent test .block-exponent .ensures) (some test) not-whole)
+    _ (own .block-exponent .ensures) (some own) (c .if2 .left))
 
 pub multiples-spec : {M : Type 1} → statement M
 multiples-spec =
@@ -84,8 +63,6 @@ multiples-spec =
     all-zero-requires
     returns
     block-exponent-requires
-    all-whole-requires
     same-integers-requires
     returns-2
-    returns-3
-    returns-4)
+    returns-3)
