@@ -210,7 +210,7 @@ fn head_of(
 
 // Whether words that were made of these integers are coded as such.
 fn coded_so(size: u32, how: Change, ints: &[u64], words: &[u64]) -> bool
-    requires { ⌜ Size size × (now words ≡ map (changed size how) (now ints)) ⌝ }
+    requires { ⌜ Size size × (now words ≡ map (changed size how) (now ints)) × Ready size how (now ints) ⌝ }
     ensures { λ r. ⌜ r ≡ codedSo (formatOf size) how (now (ints .entry)) ⌝ }
 {
     match how {

@@ -12,7 +12,9 @@ enum-known-how-2 : tie.Need-enum-known-how-2
 enum-known-how-2 c = search needs
 
 multiples-requires : tie.Need-multiples-requires
-multiples-requires c κs = let s = c .before .before .before .before .before in (s .pre .0, rw (c .before .how2 .given .1) at (s .pre .1))
+multiples-requires c κs =
+    let s = c .before .before .before .before .before in
+    (s .pre .0, rw (c .before .how2 .given .1) at (s .pre .1), rw (c .before .how2 .given .1) at (s .pre .2))
 
 enum-told : tie.Need-enum-told
 enum-told c = search needs

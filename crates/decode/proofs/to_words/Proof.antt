@@ -16,7 +16,7 @@ coded-so-requires c κs =
     let change = c .before .before .before .before in
     let copied = change .before .before .before .before in
     let s = copied .before .before .before .before .before .before in
-    (s .pre .0, change .change-all .ensures ∙ ap (map _) (sym (copied .copy .ensures)))
+    (s .pre .0, change .change-all .ensures ∙ ap (map _) (sym (copied .copy .ensures)), rw (copied .copy .ensures) (s .pre .2))
 
 same-length : tie.Need-same-length
 same-length c = search needs
