@@ -1,6 +1,6 @@
 -- The tests of an exact slot, step by step as the code goes.
 use mathlib.Core.Path.{_≡_, refl, ap, ap₂, _∙_}
-use mathlib.Core.Bool.{Bool, true, false, _&&_, and-eq-true-iff}
+use mathlib.Core.Bool.{Bool, true, false, _&&_, and-false, and-eq-true-iff}
 use mathlib.Core.List.{List, [], _∷_, map}
 use Prim.Native.Nat.{ℕ, suc, suc-le-suc, _+_, _≤_, _<_}
 use native.Mathlib.Nat.{lt-of-le-of-lt, lt-of-lt-of-le, le-max-left, le-max-right, zero-lt-suc}
@@ -44,11 +44,7 @@ kept-whole f e (i ∷ ints) small above h =
     (whole-back f e w first (lt-of-lt-of-le first (small 0 (zero-lt-suc (length ints)))) (ap (toPattern f e) (eqb-true (toInteger f e w) i (same .0))))
     (kept-whole f e ints (λ j l. small (suc j) (suc-le-suc l)) others (same .1))
 
-and-false : (a : Bool) → (a && false) ≡ false
-and-false true = refl
-and-false false = refl
-
--- a question that the answer to another one has in it
+-- of two questions, one that the other answers need not be asked
 implied : (a b : Bool) → (b ≡ true → a ≡ true) → (a && b) ≡ b
 implied a true h = rw (h refl)
 implied a false h = and-false a

@@ -1,6 +1,6 @@
--- A finite pattern that comes back from its integer at e is a whole multiple: nothing was cut from it, or its place is above e anyway.
+-- A finite pattern that comes back from its integer at e is whole: its digits stand at e or above anyway, or the integer has them all.
 use mathlib.Core.Path.{_≡_, sym, ap, _∙_, subst}
-use mathlib.Core.Bool.{Bool, true, not, _&&_}
+use mathlib.Core.Bool.{Bool, true}
 use Prim.Native.Nat.{ℕ, suc, _+_, _-_, _*_, _/_, _%_, _^_, _≤_, _<_}
 use native.Mathlib.Nat.{mul-assoc, mul-comm, mul-mod-left, zero-div, lt-trans, lt-of-le-of-lt, lt-of-lt-of-le, div-mul-le-self}
 use native.Mathlib.Decide.{decLe}

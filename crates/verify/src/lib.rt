@@ -60,8 +60,8 @@ fn same_integers(size: u32, e: u32, words: &[u64], ints: &[u64]) -> bool
     true
 }
 
-// Whether words that are the patterns of these integers at e are coded as multiples, with this e and these integers. A pattern that comes back from its
-// integer is whole, so that is not asked.
+// Whether words that are the patterns of these integers at e are coded as multiples, with this e and these integers. Patterns that come back from their
+// integers are whole: that is not asked.
 pub fn multiples(size: u32, e: u32, ints: &[u64], words: &[u64]) -> bool
     requires { ⌜ Size size × (now words ≡ map (toPattern (formatOf size) e) (now ints)) × Ready size (ToPattern e) (now ints) ⌝ }
     ensures { λ r. ⌜ r ≡ multiples (formatOf size) e (now (ints .entry)) ⌝ }
