@@ -1,11 +1,12 @@
 -- A plane of a few places as one number: its first bits, its test, and the place after its last one. Assumes nothing.
 use mathlib.Core.Path.{_≡_, refl, sym, ap, _∙_}
 use mathlib.Core.Bool.{Bool, true, false}
-use mathlib.Core.List.{List, [], _++_, append-nil}
+use mathlib.Core.List.{List, [], _∷_, _++_, append-nil}
 use Prim.Native.Nat.{ℕ, _+_, _-_, _*_, _/_, _%_, _^_, _≤_, _<_}
+use native.Mathlib.Nat.{zero-add}
 use native.Mathlib.Omega.{arith}
 use lib.Count.{leadingZeros, leading-of-zero}
-use lib.ListN.{length, take, drop, length-drop, take-append-drop, drop-of-length-le}
+use lib.ListN.{length, take, drop, length-append, length-drop, take-append-drop, drop-of-length-le}
 use lib.Pow.{high, low}
 use lib.Seq.{slice, length-take-le, take-all}
 use Rattle.bits.specs.Stream.{numberBits, numberOf}
@@ -14,7 +15,7 @@ use Rattle.planes.specs.Coder.{plane, any, onesEnd, test, planeCode, planeNext}
 use Rattle.planes.proofs.End.{moves-end, end-le, end-none}
 use Rattle.plane_parts.specs.Calls.{Part, PartCode, leftAfter}
 use Rattle.plane_parts.proofs.Parts.{left-none, plane-length, code-after}
-use Rattle.plane_writer.proofs.Places.{part-number, number-none, end-leading}
+use Rattle.plane_writer.proofs.Places.{first-length as first-of, test-none, part-number, number-none, end-leading}
 
 -- all places of a plane
 pub all-places : (k v : ℕ) (ws : List ℕ) → v ≡ numberOf (slice 0 (0 + length ws) (plane k ws)) + 2 ^ length ws * 0 → v ≡ numberOf (plane k ws)
@@ -76,3 +77,18 @@ module _ (bs : List Bool) (x n : ℕ) (h : n ≤ length bs) (e : x ≡ numberOf 
   pub short-next : length bs ≤ 32 → n + (32 - leadingZeros 32 (x / 2 ^ n)) ≡ planeNext n bs
   unfolding planeNext
   short-next l = rw (rest-number, moves-end, ones-leading (drop n bs) (omega (arith, length-drop n bs)))
+
+-- a plane in which no ones are left to find: its n first bits and a 0
+pub none-code : (k n v : ℕ) (ws : List ℕ) → n < length ws → any (drop n (plane k ws)) ≡ false → v ≡ numberOf (slice 0 (0 + n) (plane k ws)) + 2 ^ n * 0
+    → (v < 2 ^ (n + 1)) × (numberBits (n + 1) v ≡ planeCode n (plane k ws)) × (n ≡ planeNext n (plane k ws))
+unfolding planeCode planeNext
+none-code k n v ws h none e =
+    let first = take n (plane k ws) in
+    let all = first ++ (false ∷ []) in
+    let long : length all ≡ n + 1 = length-append first (false ∷ []) ∙ rw (first-of k ws n (omega arith)) in
+    let same : slice 0 (0 + n) (plane k ws) ≡ first = rw zero-add in
+    let number : v ≡ numberOf all = e ∙ rw same (part-number first false n 0 (first-of k ws n (omega arith)) refl) in (
+      rw (number, ← long) (numberOf-lt all),
+      rw (number, ← long, test-none k ws n h none) (bits-back all),
+      rw none (omega arith),
+    )

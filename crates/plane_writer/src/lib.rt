@@ -241,6 +241,49 @@ fn put_short(words: &[u64], k: u32, n: usize, buf: &mut [u8], w: Pending, limit:
     Coder { out: next, n: c.to }
 }
 
+// Whether a plane is gathered whole: that of four words, and that of at most 16 in which ones are left to find, or no places.
+fn one_pass(places: usize, ors: &[u64], k: u32, n: usize) -> bool
+    requires { ⌜ k < 64 ⌝ }
+    ensures { λ r. ⌜ (r ≡ true → places ≤ 16) ⌝ }
+{
+    if places == 4 {
+        return true;
+    }
+    if 16 < places {
+        return false;
+    }
+    if n == places {
+        return true;
+    }
+    any_from(ors, k, n)
+}
+
+// Whether fewer than 16 bits of plane k are written as they are and no ones are left to find in the places after them.
+fn none_after(places: usize, ors: &[u64], k: u32, n: usize) -> bool
+    requires { ⌜ k < 64 ⌝ }
+    ensures { λ r. ⌜ (r ≡ true → (n < 16) × (n < places) × (bit k (getD (now (ors .entry)) n 0) ≡ false)) ⌝ }
+{
+    if 16 <= n {
+        return false;
+    }
+    if places <= n {
+        return false;
+    }
+    !any_from(ors, k, n)
+}
+
+// Plane k, with no ones from place n on: its n first bits as they are, and a 0.
+fn put_none(words: &[u64], k: u32, n: usize, buf: &mut [u8], w: Pending, limit: usize) -> Coder
+    requires { ⌜ (k < 64) × (n < 16) × (n < length (now words)) × (any (drop n (plane k (now words))) ≡ false) × Ready w
+        × (limit ≤ 8 * length (now buf)) × (w .out .at + 2048 < 2 ^ 32) ⌝ }
+    ensures { λ r. ⌜ Advanced (now (buf .entry)) (now (buf .exit)) w limit
+        (planeCode n (plane k (now (words .entry)))) (planeNext n (plane k (now (words .entry)))) (r .out) (r .n) ⌝ }
+{
+    let v = plane_parts::gather(words, k, 0, n, 0);
+    let next = bit_writer::push(buf, w, limit, v as u64, n as u32 + 1);
+    Coder { out: next, n }
+}
+
 // Plane k: its n first bits as they are, then a test, if places are left.
 fn put_plane(
     words: &[u64],
@@ -256,11 +299,13 @@ fn put_plane(
     ensures { λ r. ⌜ Advanced (now (buf .entry)) (now (buf .exit)) w limit
         (planeCode n (plane k (now (words .entry)))) (planeNext n (plane k (now (words .entry)))) (r .out) (r .n) ⌝ }
 {
-    if words.len() <= 16 {
-        put_short(words, k, n, buf, w, limit)
-    } else {
-        put_long(words, ors, k, n, buf, w, limit)
+    if one_pass(words.len(), ors, k, n) {
+        return put_short(words, k, n, buf, w, limit);
     }
+    if none_after(words.len(), ors, k, n) {
+        return put_none(words, k, n, buf, w, limit);
+    }
+    put_long(words, ors, k, n, buf, w, limit)
 }
 
 // How many bits were written since the place `from`.
