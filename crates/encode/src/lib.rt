@@ -7,7 +7,7 @@ ghost use lib.ListN.{length};
 ghost use Rattle.words.specs.Calls.{Size};
 ghost use Rattle.floats.specs.Calls.{formatOf};
 ghost use Rattle.float_blocks.specs.Block.{anySpecial};
-ghost use Rattle.plane_writer.specs.Calls.{OnesFrom};
+ghost use Rattle.plane_coder.specs.Calls.{OnesFrom};
 ghost use Rattle.codec.specs.Depth.{wholeOf, wholeIntegers};
 ghost use Rattle.codec.specs.Calls.{Shape, coefficientsCode, integersCode, uncutTo, wholeAt, Formed};
 ghost use Rattle.encode.specs.Calls.{BlockCoded, Planned};

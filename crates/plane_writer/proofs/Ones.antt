@@ -1,21 +1,21 @@
 -- The or of words, bit by bit: which planes have a one, and from which place on. Assumes nothing.
-use mathlib.Core.Path.{_≡_, refl, sym, ap, _∙_}
+use mathlib.Core.Path.{_≡_, refl, sym}
 use mathlib.Core.Bool.{Bool, true, false, _||_}
-use mathlib.Core.List.{List, [], _∷_}
+use mathlib.Core.List.{List}
 use Prim.Native.Nat.{ℕ, zero, suc, _+_, _-_, _/_, _%_, _^_, _≤_, _<_, min, max}
-use native.Mathlib.Nat.{zero-div, div-eq-of-lt, lt-of-lt-of-le}
+use native.Mathlib.Nat.{div-eq-of-lt, lt-of-lt-of-le}
 use native.Mathlib.Numerals.{add-one}
 use native.Mathlib.Decide.{decLe}
 use native.Mathlib.Omega.{arith}
 use lib.Bits.{bitOr, or-step, or-shr}
 use lib.Count.{leadingZeros, leading-length}
 use lib.Dec.{eqb}
-use lib.ListN.{length, getD, set, take, drop, drop-of-length-le, List·getD-map}
+use lib.ListN.{length, getD, set, drop, drop-of-length-le}
 use lib.Pow.{pow-mono}
-use lib.Seq.{slice, drop-cons, getD-set-same, getD-set-other, getD-take, getD-drop}
+use lib.Seq.{drop-cons, getD-set-same, getD-set-other}
 use Rattle.bits.specs.Stream.{bit}
 use Rattle.planes.specs.Coder.{plane, any}
-use Rattle.plane_writer.proofs.Places.{plane-cons}
+use Rattle.plane_coder.proofs.Places.{plane-cons}
 
 or-assoc : (a b c : Bool) → (a || (b || c)) ≡ ((a || b) || c)
 or-assoc true b c = refl
@@ -41,9 +41,6 @@ bit-or k a b =
     let e : bitOr x y % 2 ≡ max (x % 2) (y % 2) = omega (arith, or-step x y) in
     rw (or-shr a b k, e) (odd-max (x % 2) (y % 2) (omega arith) (omega arith))
 
-pub bit-zero : (k : ℕ) → bit k 0 ≡ false
-bit-zero k = rw (zero-div (2 ^ k))
-
 -- one word more
 pub ones-more : (k all i : ℕ) (ws : List ℕ) → i < length ws
     → (bit k (bitOr all (getD ws i 0)) || any (plane k (drop (i + 1) ws))) ≡ (bit k all || any (plane k (drop i ws)))
@@ -53,15 +50,6 @@ ones-more k all i ws h =
 
 pub ones-all : (k all i : ℕ) (ws : List ℕ) → length ws ≤ i → (bit k all || any (plane k (drop i ws))) ≡ bit k all
 ones-all k all i ws h = rw (drop-of-length-le ws {i = i} h) (or-false (bit k all))
-
--- past the last word there is none
-past : (ws : List ℕ) (i : ℕ) → length ws ≤ i → getD ws i 0 ≡ 0
-past [] i h = refl
-past (w ∷ ws) zero h = absurd (omega arith)
-past (w ∷ ws) (suc i) h = past ws i (omega arith)
-
-pub none-past : (k i : ℕ) (ws : List ℕ) → length ws ≤ i → bit k (getD ws i 0) ≡ false
-none-past k i ws h = rw (past ws i h) (bit-zero k)
 
 or-comm : (a b : Bool) → (a || b) ≡ (b || a)
 or-comm true true = refl
@@ -83,12 +71,6 @@ ones-set k j i all ors ws h l e f = go (decLe (suc i) j)
     go : Dec (i < j) → bit k (getD (set ors i all) j 0) ≡ any (drop j (plane k ws))
     go (yes m) = rw (getD-set-other ors i j all 0 (λ (q : j ≡ i). omega arith)) (f m)
     go (no m) = let same : j ≡ i = omega arith in rw (same, getD-set-same ors i all 0 h) e
-
--- the last bit of 16 places
-pub last-bit : (k i : ℕ) (ws : List ℕ) → i + 16 ≤ length ws → getD (slice i (i + 16) (plane k ws)) 15 false ≡ bit k (getD ws (i + 15) 0)
-last-bit k i ws h =
-    getD-drop i (take (i + 16) (plane k ws)) 15 false ∙ getD-take (i + 16) (plane k ws) (i + 15) false (omega arith)
-    ∙ ap (λ (b : Bool). getD (plane k ws) (i + 15) b) (sym (bit-zero k)) ∙ List·getD-map (bit k) ws (i + 15) 0
 
 -- ---- the planes from the top that have no one
 

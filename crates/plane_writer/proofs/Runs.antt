@@ -16,7 +16,7 @@ use Rattle.planes.proofs.Bound.{planesOf-length}
 use Rattle.planes.proofs.End.{next-end}
 use Rattle.plane_parts.specs.Calls.{fourPlanes}
 use Rattle.plane_parts.proofs.Four.{four-words}
-use Rattle.plane_writer.proofs.Places.{test-none, next-past, none-end}
+use Rattle.plane_coder.proofs.Places.{test-none, next-past, none-end}
 use Rattle.plane_writer.proofs.Steps.{Going}
 
 -- planes that leave n as it is

@@ -14,8 +14,9 @@ use Rattle.bit_writer.proofs.PushLaws.{start-ready, pushed-place}
 use Rattle.planes.specs.Coder.{plane, planesOf, planeCode, planeNext, codeFrom, planesCode, endsFrom, within, planesWithin}
 use Rattle.plane_parts.specs.Calls.{fourPlanes}
 use Rattle.plane_parts.proofs.Four.{four-back}
-use Rattle.plane_writer.specs.Calls.{OnesFrom, Advanced, Begun}
-use Rattle.plane_writer.proofs.Places.{plane-small}
+use Rattle.plane_coder.specs.Calls.{OnesFrom, Advanced}
+use Rattle.plane_writer.specs.Calls.{Begun}
+use Rattle.plane_coder.proofs.Places.{plane-small}
 use Rattle.plane_writer.proofs.Steps.{Going, going-none, planes-more, count-whole, count-cut, used-more}
 use Rattle.plane_writer.proofs.Steps.{long-enough, place-more, all-whole}
 use Rattle.plane_writer.proofs.Runs.{Still, going-run, whole-run, none-run, full-run, four-run}

@@ -11,7 +11,7 @@ use Rattle.bit_writer.specs.declared.Pending.{Pending}
 use Rattle.bit_writer.specs.Calls.{Ready, Pushed}
 use Rattle.bit_writer.proofs.PushLaws.{pushed-none, pushed-append}
 use Rattle.planes.specs.Coder.{plane, planesOf, planeCode, planeNext, codeFrom, planeEnd, endsFrom, within}
-use Rattle.plane_writer.specs.Calls.{Advanced}
+use Rattle.plane_coder.specs.Calls.{Advanced}
 
 -- a code of which some was written, and this is left
 pub record Going (before after : List ℕ) (w next : Pending) (limit : ℕ) (code left : List Bool) : Type 0 where

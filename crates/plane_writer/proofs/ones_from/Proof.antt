@@ -7,8 +7,8 @@ use lib.Bits.{bitOr}
 use lib.ListN.{length, getD, drop, length-set}
 use Rattle.bits.specs.Stream.{bit}
 use Rattle.planes.specs.Coder.{plane, any}
-use Rattle.plane_writer.proofs.Places.{plane-end}
-use Rattle.plane_writer.proofs.Ones.{bit-zero, none-past, ones-below, ones-set}
+use Rattle.plane_coder.proofs.Places.{plane-end, bit-zero, none-past}
+use Rattle.plane_writer.proofs.Ones.{ones-below, ones-set}
 use Rattle.plane_writer.proofs.ones_from.Statement.{statement}
 use Rattle.plane_writer.proofs.ones_from.Tie as tie
 

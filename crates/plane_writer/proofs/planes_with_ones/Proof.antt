@@ -1,5 +1,6 @@
 -- The invariant: a bit of the or so far, or a one in the words that are left. Assumes nothing.
-use Rattle.plane_writer.proofs.Ones.{bit-zero, ones-more, ones-all}
+use Rattle.plane_coder.proofs.Places.{bit-zero}
+use Rattle.plane_writer.proofs.Ones.{ones-more, ones-all}
 use Rattle.planes.specs.Coder.{plane, any}
 use Rattle.bits.specs.Stream.{bit}
 use lib.ListN.{length, drop}

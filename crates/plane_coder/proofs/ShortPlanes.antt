@@ -1,0 +1,94 @@
+-- A plane of a few places as one number: its first bits, its test, and the place after its last one. Assumes nothing.
+use mathlib.Core.Path.{_≡_, refl, sym, ap, _∙_}
+use mathlib.Core.Bool.{Bool, true, false}
+use mathlib.Core.List.{List, [], _∷_, _++_, append-nil}
+use Prim.Native.Nat.{ℕ, _+_, _-_, _*_, _/_, _%_, _^_, _≤_, _<_}
+use native.Mathlib.Nat.{zero-add}
+use native.Mathlib.Omega.{arith}
+use lib.Count.{leadingZeros, leading-of-zero}
+use lib.ListN.{length, take, drop, length-append, length-drop, take-append-drop, drop-of-length-le}
+use lib.Pow.{high, low}
+use lib.Seq.{slice, length-take-le, take-all}
+use Rattle.bits.specs.Stream.{numberBits, numberOf}
+use Rattle.bits.proofs.NumberLaws.{numberOf-append, numberOf-lt, bits-back}
+use Rattle.planes.specs.Coder.{plane, any, onesEnd, test, planeCode, planeNext}
+use Rattle.planes.proofs.End.{moves-end, end-le, end-none}
+use Rattle.plane_parts.specs.Calls.{Part, PartCode, leftAfter}
+use Rattle.plane_parts.proofs.Parts.{left-none, plane-length, code-after}
+use Rattle.plane_coder.proofs.Places.{first-length as first-of, test-none, part-number, number-none, end-leading}
+
+-- all places of a plane
+pub all-places : (k v : ℕ) (ws : List ℕ) → v ≡ numberOf (slice 0 (0 + length ws) (plane k ws)) + 2 ^ length ws * 0 → v ≡ numberOf (plane k ws)
+all-places k v ws e =
+    let same : slice 0 (0 + length ws) (plane k ws) ≡ plane k ws = take-all (0 + length ws) (plane k ws) (omega (arith, plane-length k ws)) in
+    e ∙ rw same (omega arith)
+
+-- the place after the last one, by the number of the bits
+ones-leading : (bs : List Bool) → length bs ≤ 32 → 32 - leadingZeros 32 (numberOf bs) ≡ onesEnd bs
+ones-leading bs h = go (any bs) refl
+  where
+    go : (a : Bool) → any bs ≡ a → 32 - leadingZeros 32 (numberOf bs) ≡ onesEnd bs
+    go true e = omega (arith, end-leading bs e (omega (arith, end-le bs)))
+    go false e = rw (number-none bs e, leading-of-zero 32, end-none bs e) (omega arith)
+
+-- the n first bits of a plane and the others, by the plane's number
+module _ (bs : List Bool) (x n : ℕ) (h : n ≤ length bs) (e : x ≡ numberOf bs) where
+  first-length : length (take n bs) ≡ n
+  first-length = length-take-le n bs h
+
+  few : numberOf (take n bs) < 2 ^ n
+  few = rw first-length at (numberOf-lt (take n bs))
+
+  parts : x ≡ numberOf (drop n bs) * 2 ^ n + numberOf (take n bs)
+  parts =
+      e ∙ ap numberOf (sym (take-append-drop n bs)) ∙ numberOf-append (take n bs) (drop n bs) ∙ rw first-length (omega arith)
+
+  first-number : x % 2 ^ n ≡ numberOf (take n bs)
+  first-number = rw parts (low (numberOf (drop n bs)) n few)
+
+  rest-number : x / 2 ^ n ≡ numberOf (drop n bs)
+  rest-number = rw parts (high (numberOf (drop n bs)) n few)
+
+  -- no places are left
+  pub short-end : length bs ≤ n → (numberBits n (x % 2 ^ n) ≡ planeCode n bs) × (n ≡ planeNext n bs)
+  unfolding planeCode planeNext
+  short-end l =
+      let back = rw first-length at (bits-back (take n bs)) in
+      let none = drop-of-length-le bs {i = n} l in
+      (rw (first-number, back, none) (sym (append-nil (take n bs))), rw none (omega arith))
+
+  -- the places that are left, of which none follow
+  pub short-part : Part (x / 2 ^ n) (length bs - n) 1 (drop n bs) []
+  short-part =
+      record {
+        places = length-drop n bs;
+        number = omega (arith, rest-number, part-number (drop n bs) false (length bs - n) 0 (length-drop n bs) refl);
+        ends = refl;
+      }
+
+  pub short-code : {code count′ code′ : ℕ} → code ≡ x % 2 ^ n → PartCode n code (test (drop n bs ++ [])) (leftAfter true (drop n bs) []) count′ code′
+      → numberBits count′ code′ ≡ planeCode n bs
+  unfolding planeCode
+  short-code f p =
+      let whole = code-after (take n bs) first-length (f ∙ first-number) p in
+      let left = left-none true (drop n bs) [] refl in
+      sym (append-nil _) ∙ (rw (left, append-nil (drop n bs)) at whole)
+
+  pub short-next : length bs ≤ 32 → n + (32 - leadingZeros 32 (x / 2 ^ n)) ≡ planeNext n bs
+  unfolding planeNext
+  short-next l = rw (rest-number, moves-end, ones-leading (drop n bs) (omega (arith, length-drop n bs)))
+
+-- a plane in which no ones are left to find: its n first bits and a 0
+pub none-code : (k n v : ℕ) (ws : List ℕ) → n < length ws → any (drop n (plane k ws)) ≡ false → v ≡ numberOf (slice 0 (0 + n) (plane k ws)) + 2 ^ n * 0
+    → (v < 2 ^ (n + 1)) × (numberBits (n + 1) v ≡ planeCode n (plane k ws)) × (n ≡ planeNext n (plane k ws))
+unfolding planeCode planeNext
+none-code k n v ws h none e =
+    let first = take n (plane k ws) in
+    let all = first ++ (false ∷ []) in
+    let long : length all ≡ n + 1 = length-append first (false ∷ []) ∙ rw (first-of k ws n (omega arith)) in
+    let same : slice 0 (0 + n) (plane k ws) ≡ first = rw zero-add in
+    let number : v ≡ numberOf all = e ∙ rw same (part-number first false n 0 (first-of k ws n (omega arith)) refl) in (
+      rw (number, ← long) (numberOf-lt all),
+      rw (number, ← long, test-none k ws n h none) (bits-back all),
+      rw none (omega arith),
+    )

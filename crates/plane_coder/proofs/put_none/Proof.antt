@@ -1,0 +1,42 @@
+-- The first bits and the 0 of a test are one number. Assumes nothing.
+use native.Mathlib.Omega.{arith}
+use Rattle.plane_coder.proofs.ShortPlanes.{none-code}
+use borrow.Author.Needs.{needs}
+use Rattle.plane_coder.proofs.put_none.Statement.{statement}
+use Rattle.plane_coder.proofs.put_none.Tie as tie
+
+gather-requires : tie.Need-gather-requires
+gather-requires c κs = search needs
+
+cast-push : tie.Need-cast-push
+cast-push c = search needs
+
+cast-push-2 : tie.Need-cast-push-2
+cast-push-2 c = search needs
+
+add-push : tie.Need-add-push
+add-push c = search needs
+
+push-requires : tie.Need-push-requires
+push-requires c κs =
+    let s = c .before .before .before .before in
+    let a = s .args in
+    let none = none-code (a .k) (a .n) _ (a .words .now) (s .pre .2) (s .pre .3) (c .before .gather .ensures) in
+    (s .pre .4, none .0, omega (arith, s .pre .1), search needs, omega (arith, s .pre .6))
+
+same-length : tie.Need-same-length
+same-length c = search needs
+
+returns : tie.Need-returns
+returns c =
+    let push = c .before .before in
+    let gather = push .before .before in
+    let s = gather .before .before .before in
+    let a = s .args in
+    let none = none-code (a .k) (a .n) _ (a .words .now) (s .pre .2) (s .pre .3) (gather .gather .ensures) in
+    record { pushed = rw (none .1) at (push .push .ensures); moved = none .2 }
+
+pub put-none-spec : {M : Type 1} → statement M
+put-none-spec =
+    tie.close
+    (tie.spec gather-requires cast-push cast-push-2 add-push push-requires same-length returns)
