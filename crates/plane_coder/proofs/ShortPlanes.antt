@@ -6,11 +6,15 @@ use Prim.Native.Nat.{ℕ, _+_, _-_, _*_, _/_, _%_, _^_, _≤_, _<_}
 use native.Mathlib.Nat.{zero-add}
 use native.Mathlib.Omega.{arith}
 use lib.Count.{leadingZeros, leading-of-zero}
-use lib.ListN.{length, take, drop, length-append, length-drop, take-append-drop, drop-of-length-le}
+use lib.ListN.{length, take, drop, length-append, length-drop, take-append-drop}
 use lib.Pow.{high, low}
 use lib.Seq.{slice, length-take-le, take-all}
 use Rattle.bits.specs.Stream.{numberBits, numberOf}
+use Rattle.bits.specs.Writes.{mostWrites}
 use Rattle.bits.proofs.NumberLaws.{numberOf-append, numberOf-lt, bits-back}
+use Rattle.bit_writer.specs.declared.Pending.{Pending}
+use Rattle.bit_writer.specs.Calls.{Ready, Pushed}
+use Rattle.bit_writer.proofs.PushLaws.{pushed-place}
 use Rattle.planes.specs.Coder.{plane, any, onesEnd, test, planeCode, planeNext}
 use Rattle.planes.proofs.End.{moves-end, end-le, end-none}
 use Rattle.plane_parts.specs.Calls.{Part, PartCode, leftAfter}
@@ -49,13 +53,8 @@ module _ (bs : List Bool) (x n : ℕ) (h : n ≤ length bs) (e : x ≡ numberOf 
   rest-number : x / 2 ^ n ≡ numberOf (drop n bs)
   rest-number = rw parts (high (numberOf (drop n bs)) n few)
 
-  -- no places are left
-  pub short-end : length bs ≤ n → (numberBits n (x % 2 ^ n) ≡ planeCode n bs) × (n ≡ planeNext n bs)
-  unfolding planeCode planeNext
-  short-end l =
-      let back = rw first-length at (bits-back (take n bs)) in
-      let none = drop-of-length-le bs {i = n} l in
-      (rw (first-number, back, none) (sym (append-nil (take n bs))), rw none (omega arith))
+  pub first-bits : numberBits n (x % 2 ^ n) ≡ take n bs
+  first-bits = rw first-number (rw first-length at (bits-back (take n bs)))
 
   -- the places that are left, of which none follow
   pub short-part : Part (x / 2 ^ n) (length bs - n) 1 (drop n bs) []
@@ -66,11 +65,10 @@ module _ (bs : List Bool) (x n : ℕ) (h : n ≤ length bs) (e : x ≡ numberOf 
         ends = refl;
       }
 
-  pub short-code : {code count′ code′ : ℕ} → code ≡ x % 2 ^ n → PartCode n code (test (drop n bs ++ [])) (leftAfter true (drop n bs) []) count′ code′
-      → numberBits count′ code′ ≡ planeCode n bs
-  unfolding planeCode
-  short-code f p =
-      let whole = code-after (take n bs) first-length (f ∙ first-number) p in
+  pub short-test : {count′ code′ : ℕ} → PartCode 0 0 (test (drop n bs ++ [])) (leftAfter true (drop n bs) []) count′ code′
+      → numberBits count′ code′ ≡ test (drop n bs)
+  short-test p =
+      let whole = code-after [] refl refl p in
       let left = left-none true (drop n bs) [] refl in
       sym (append-nil _) ∙ (rw (left, append-nil (drop n bs)) at whole)
 
@@ -92,3 +90,9 @@ none-code k n v ws h none e =
       rw (number, ← long, test-none k ws n h none) (bits-back all),
       rw none (omega arith),
     )
+
+-- a code that begins with n leading bits takes few byte writes
+pub few-writes : {before after : List ℕ} {limit : ℕ} {code : List Bool} {w w₁ : Pending} (n : ℕ) → length code ≤ 8 * (n / 4) + 8 → Ready w
+    → Pushed before after w limit code w₁ → w₁ .out .writes ≤ w .out .writes + mostWrites n
+unfolding mostWrites
+few-writes n h r p = omega (arith, pushed-place p, p .cheap, r .short)

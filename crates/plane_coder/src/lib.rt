@@ -9,6 +9,7 @@ ghost use Rattle.bits.specs.Stream.{bit, digit, numberBits, numberOf};
 ghost use Rattle.bits.specs.Writes.{mostWrites};
 ghost use Rattle.bit_writer.specs.Calls.{Ready, Pushed};
 ghost use Rattle.planes.specs.Coder.{plane, any, onesEnd, scan, test, planeCode, planeNext};
+ghost use Rattle.plane_parts.specs.Calls.{fourPlanes};
 ghost use Rattle.plane_coder.specs.Calls.{OnesFrom, Advanced};
 use bit_writer::Pending;
 
@@ -136,7 +137,7 @@ fn put_long(
     }
 }
 
-// What a plane of at most 16 places writes, and the place to which n moves.
+// What the test of a plane of at most 16 places writes, and the place to which n moves.
 struct Short {
     pub bits: u64,
     pub count: u32,
@@ -163,23 +164,25 @@ fn first_bits(x: u32, n: usize) -> u64
     (x as u64) % (1u64 << n)
 }
 
-// What a plane of so many places writes whose bits are x: the n first as they are, then a test, if places are left.
-fn short_code(x: u32, places: usize, n: usize) -> Short
-    requires { ⌜ (n ≤ places) × (places ≤ 16) ⌝ }
+// Writes the n first bits of a plane whose bits are x.
+fn put_first(buf: &mut [u8], w: Pending, limit: usize, x: u32, n: usize) -> Pending
+    requires { ⌜ (n ≤ 16) × Ready w × (limit ≤ 8 * length (now buf)) × (w .out .at + 64 < 2 ^ 32) ⌝ }
+    ensures { λ r. ⌜ ((bs : List Bool) → n ≤ length bs → x ≡ numberOf bs → Pushed (now (buf .entry)) (now (buf .exit)) w limit (take n bs) r)
+        × (r .out .writes ≤ w .out .writes + mostWrites n) ⌝ }
+{
+    bit_writer::push(buf, w, limit, first_bits(x, n), n as u32)
+}
+
+// The test of a plane of so many places whose bits are x, from place n on.
+fn short_test(x: u32, places: usize, n: usize) -> Short
+    requires { ⌜ (n < places) × (places ≤ 16) ⌝ }
     ensures { λ r. ⌜ ((bs : List Bool) → length bs ≡ places → x ≡ numberOf bs
-        → (numberBits (r .count) (r .bits) ≡ planeCode n bs) × (r .to ≡ planeNext n bs))
+        → (numberBits (r .count) (r .bits) ≡ test (drop n bs)) × (r .to ≡ planeNext n bs))
         × (r .bits < 2 ^ r .count) × (r .count ≤ 33) ⌝ }
 {
-    let mut bits = first_bits(x, n);
-    if n == places {
-        return Short {
-            bits,
-            count: n as u32,
-            to: n,
-        };
-    }
     let rest = x >> n;
-    let count = plane_parts::test(rest, (places - n) as u32, 1, n as u32, &mut bits);
+    let mut bits: u64 = 0;
+    let count = plane_parts::test(rest, (places - n) as u32, 1, 0, &mut bits);
     let ones = (32 - u32::leading_zeros(rest)) as usize;
     Short {
         bits,
@@ -188,15 +191,20 @@ fn short_code(x: u32, places: usize, n: usize) -> Short
     }
 }
 
-// Plane k of at most 16 words, in one pass.
+// Plane k of at most 16 words, gathered once: its n first bits as they are, then a test, if places are left.
 fn put_short(words: &[u64], k: u32, n: usize, buf: &mut [u8], w: Pending, limit: usize) -> Coder
     requires { ⌜ (k < 64) × (n ≤ length (now words)) × (length (now words) ≤ 16) × Ready w
         × (limit ≤ 8 * length (now buf)) × (w .out .at + 2048 < 2 ^ 32) ⌝ }
     ensures { λ r. ⌜ Advanced (now (buf .entry)) (now (buf .exit)) w limit
         (planeCode n (plane k (now (words .entry)))) (planeNext n (plane k (now (words .entry)))) (r .out) (r .n) ⌝ }
 {
-    let c = short_code(gather_all(words, k), words.len(), n);
-    let next = bit_writer::push(buf, w, limit, c.bits, c.count);
+    let x = gather_all(words, k);
+    let first = put_first(buf, w, limit, x, n);
+    if n == words.len() {
+        return Coder { out: first, n };
+    }
+    let c = short_test(x, words.len(), n);
+    let next = bit_writer::push(buf, first, limit, c.bits, c.count);
     Coder { out: next, n: c.to }
 }
 
@@ -236,11 +244,21 @@ fn put_none(words: &[u64], k: u32, n: usize, buf: &mut [u8], w: Pending, limit: 
     requires { ⌜ (k < 64) × (n < 16) × (n < length (now words)) × (any (drop n (plane k (now words))) ≡ false) × Ready w
         × (limit ≤ 8 * length (now buf)) × (w .out .at + 2048 < 2 ^ 32) ⌝ }
     ensures { λ r. ⌜ Advanced (now (buf .entry)) (now (buf .exit)) w limit
-        (planeCode n (plane k (now (words .entry)))) (planeNext n (plane k (now (words .entry)))) (r .out) (r .n) ⌝ }
+        (planeCode n (plane k (now (words .entry)))) (planeNext n (plane k (now (words .entry)))) (r .out) (r .n)
+        × (r .out .out .writes ≤ w .out .writes + mostWrites n) ⌝ }
 {
     let v = plane_parts::gather(words, k, 0, n, 0);
     let next = bit_writer::push(buf, w, limit, v as u64, n as u32 + 1);
     Coder { out: next, n }
+}
+
+// The planes k + 3 down to k of four words, as they are.
+pub fn put_four(words: &[u64], k: u32, buf: &mut [u8], w: Pending, limit: usize) -> Pending
+    requires { ⌜ (length (now words) ≡ 4) × (k + 4 ≤ 64) × Ready w × (limit ≤ 8 * length (now buf)) × (w .out .at + 64 < 2 ^ 32) ⌝ }
+    ensures { λ r. ⌜ Pushed (now (buf .entry)) (now (buf .exit)) w limit (fourPlanes k (now (words .entry))) r
+        × (r .out .writes ≤ w .out .writes + mostWrites 4) ⌝ }
+{
+    bit_writer::push(buf, w, limit, plane_parts::four_planes(words, k), 16)
 }
 
 // Plane k: its n first bits as they are, then a test, if places are left.

@@ -48,7 +48,7 @@ four-words P h (a ∷ b ∷ c ∷ d ∷ []) e = h a b c d
 four-words P h (a ∷ b ∷ c ∷ d ∷ x ∷ ws) e = absurd (omega arith)
 
 module _ (k : ℕ) (ws : List ℕ) (four : length ws ≡ 4) where
-  planes-long : length (fourPlanes k ws) ≡ 16
+  pub planes-long : length (fourPlanes k ws) ≡ 16
   planes-long = four-words (λ ws. length (fourPlanes k ws) ≡ 16) (λ a b c d. refl) ws four
 
   -- the columns of four words, each one place higher than that of the word before

@@ -6,14 +6,14 @@ use Prim.Native.Nat.{ℕ, _+_, _-_, _*_, _^_, _≤_, _<_}
 use native.Mathlib.Omega.{arith}
 use lib.ListN.{length, getD}
 use Rattle.bits.specs.declared.Cursor.{Cursor}
-use Rattle.bits.specs.Stream.{bit, numberBits, numberOf}
+use Rattle.bits.specs.Stream.{bit, numberBits}
 use Rattle.bits.proofs.NumberLaws.{length-numberBits}
 use Rattle.bit_writer.specs.declared.Pending.{Pending}
 use Rattle.bit_writer.specs.Calls.{Pushed}
 use Rattle.bit_writer.proofs.PushLaws.{start-ready, pushed-place}
 use Rattle.planes.specs.Coder.{plane, planesOf, planeCode, planeNext, codeFrom, planesCode, endsFrom, within, planesWithin}
 use Rattle.plane_parts.specs.Calls.{fourPlanes}
-use Rattle.plane_parts.proofs.Four.{four-back}
+use Rattle.plane_parts.proofs.Four.{planes-long}
 use Rattle.plane_coder.specs.Calls.{OnesFrom, Advanced}
 use Rattle.plane_writer.specs.Calls.{Begun}
 use Rattle.plane_coder.proofs.Places.{plane-small}
@@ -82,12 +82,11 @@ module _ {size p limit budget : ℕ} {ws before after after₂ : List ℕ} {out 
       }
 
   -- four planes of four words, written as they are
-  pub standing-four : {v : ℕ} → n ≡ 4 → size - p + 4 ≤ k → length ws ≡ 4 → w .out .at + w .count - out .at + 16 ≤ budget
-      → v ≡ numberOf (fourPlanes (k - 4) ws) → Pushed after after₂ w limit (numberBits 16 v) w₂
-      → Standing size p limit budget ws before out after₂ w₂ n (k - 4)
-  standing-four {v} f h four room e r =
-      let code : codeFrom n (planesOf k 4 ws) ≡ numberBits 16 v = rw (f, e, four-back (k - 4) ws four) (four-run k ws (omega arith) four) in
-      let long : length (codeFrom n (planesOf k 4 ws)) ≡ 16 = ap length code ∙ length-numberBits 16 v in
+  pub standing-four : n ≡ 4 → size - p + 4 ≤ k → length ws ≡ 4 → w .out .at + w .count - out .at + 16 ≤ budget
+      → Pushed after after₂ w limit (fourPlanes (k - 4) ws) w₂ → Standing size p limit budget ws before out after₂ w₂ n (k - 4)
+  standing-four f h four room r =
+      let code : codeFrom n (planesOf k 4 ws) ≡ fourPlanes (k - 4) ws = rw f (four-run k ws (omega arith) four) in
+      let long : length (codeFrom n (planesOf k 4 ws)) ≡ 16 = ap length code ∙ planes-long (k - 4) ws four in
       standing-run 4 h (full-run k 4 n ws (omega arith)) (omega (arith, long)) (rw long room) (rw code r)
 
   -- a plane

@@ -113,7 +113,7 @@ fn planes(
     while lowest < k {
         if four_fit(n, words.len(), k - lowest, used(w, out.at), budget) {
             k -= 4;
-            w = bit_writer::push(buf, w, limit, plane_parts::four_planes(words, k), 16);
+            w = plane_coder::put_four(words, k, buf, w, limit);
             continue;
         }
         k -= 1;

@@ -1,6 +1,8 @@
 -- The first bits and the 0 of a test are one number. Assumes nothing.
+use Rattle.bits.proofs.NumberLaws.{length-numberBits}
+use Prim.Native.Nat.{_+_}
 use native.Mathlib.Omega.{arith}
-use Rattle.plane_coder.proofs.ShortPlanes.{none-code}
+use Rattle.plane_coder.proofs.ShortPlanes.{none-code, few-writes}
 use borrow.Author.Needs.{needs}
 use Rattle.plane_coder.proofs.put_none.Statement.{statement}
 use Rattle.plane_coder.proofs.put_none.Tie as tie
@@ -34,7 +36,9 @@ returns c =
     let s = gather .before .before .before in
     let a = s .args in
     let none = none-code (a .k) (a .n) _ (a .words .now) (s .pre .2) (s .pre .3) (gather .gather .ensures) in
-    record { pushed = rw (none .1) at (push .push .ensures); moved = none .2 }
+    let r = push .push .ensures in
+    let long = length-numberBits (a .n + 1) (gather .gather .result) in
+    (record { pushed = rw (none .1) at r; moved = none .2 }, few-writes (a .n) (omega (arith, long)) (s .pre .4) r)
 
 pub put-none-spec : {M : Type 1} → statement M
 put-none-spec =

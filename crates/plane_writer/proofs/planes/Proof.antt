@@ -104,31 +104,26 @@ four-fit-requires c κs = rw (c .used .ensures) (omega (arith, near (c .before .
 sub-k-2 : tie.Need-sub-k-2 Inv-loop μ-loop
 sub-k-2 c = omega (arith, c .before .four-fit .ensures (c .if1 .taken) .2)
 
-four-planes-requires : tie.Need-four-planes-requires Inv-loop μ-loop
-four-planes-requires c κs =
+put-four-requires : tie.Need-put-four-requires Inv-loop μ-loop
+put-four-requires c κs =
     let fit = c .before .before .four-fit .ensures (c .before .if1 .taken) in
     let l = c .before .before .before .before .before in
-    (fit .1, omega (arith, fit .2, standing l .top, entry (l .before) .pre .0))
-
-push-requires-2 : tie.Need-push-requires-2 Inv-loop μ-loop
-push-requires-2 c κs =
-    let l = c .before .before .before .before .before .before in
-    (standing l .going .pushed .ready, c .four-planes .ensures .1, omega arith, room l, omega (arith, near l))
+    (fit .1, omega (arith, fit .2, standing l .top, entry (l .before) .pre .0), standing l .going .pushed .ready, room l, omega (arith, near l))
 
 loop-less : tie.Need-loop-less Inv-loop μ-loop
 loop-less c =
-    let t = c .before .before .before .before .before in
+    let t = c .before .before .before .before in
     omega (arith, t .before .four-fit .ensures (t .if1 .taken) .2)
 
 loop-again : tie.Need-loop-again Inv-loop μ-loop
 loop-again c =
     let put = c .before .before in
-    let t = put .before .before .before in
+    let t = put .before .before in
     let fit = t .before .four-fit .ensures (t .if1 .taken) in
     let l = t .before .before .before .before .loop in (
-      put .push2 .kept .0 ∙ l .inv .0,
+      put .put-four .kept .1 .1 .0 ∙ l .inv .0,
       (λ before s. standing-four (l .inv .1 before s) (fit .0) (omega (arith, fit .2)) (fit .1) (rw (t .before .before .used .ensures) at (fit .3))
-          (put .before .four-planes .ensures .0) (put .push2 .ensures)),
+          (put .put-four .ensures .0)),
     )
 
 sub-k-3 : tie.Need-sub-k-3 Inv-loop μ-loop
@@ -215,8 +210,7 @@ planes-spec =
     used-requires
     four-fit-requires
     sub-k-2
-    four-planes-requires
-    push-requires-2
+    put-four-requires
     loop-less
     loop-again
     sub-k-3
