@@ -51,11 +51,11 @@ add-append n k (b ∷ bs) cs ws h =
 pub room-here : (w k n : ℕ) (ws : List ℕ) → n < length ws → Room w (suc k) (drop n ws) → getD ws n 0 + 2 ^ k < 2 ^ w
 room-here w k n ws h r = let r' = rw (drop-cons ws n 0 h) at r in omega (arith, r' .0, pow-suc 2 k, pow-pos k)
 
-room-next : (w k n : ℕ) (ws : List ℕ) → n < length ws → Room w (suc k) (drop n ws) → Room w (suc k) (drop (n + 1) ws)
-room-next w k n ws h r = let r' = rw (drop-cons ws n 0 h) at r in rw add-one (r' .1)
+room-next : (w m n : ℕ) (ws : List ℕ) → n < length ws → Room w m (drop n ws) → Room w m (drop (n + 1) ws)
+room-next w m n ws h r = let r' = rw (drop-cons ws n 0 h) at r in rw add-one (r' .1)
 
-pub room-set : (w k n v : ℕ) (ws : List ℕ) → n < length ws → Room w (suc k) (drop n ws) → Room w (suc k) (drop (n + 1) (set ws n v))
-room-set w k n v ws h r = rw (drop-set-lt (n + 1) ws n v (omega arith)) (room-next w k n ws h r)
+pub room-set : (w m n v : ℕ) (ws : List ℕ) → n < length ws → Room w m (drop n ws) → Room w m (drop (n + 1) (set ws n v))
+room-set w m n v ws h r = rw (drop-set-lt (n + 1) ws n v (omega arith)) (room-next w m n ws h r)
 
 -- the room that bits leave in the words after them
 pub room-after : (w k n : ℕ) (bs : List Bool) (ws : List ℕ) → n + length bs ≤ length ws → Room w (suc k) (drop n ws)
@@ -65,4 +65,4 @@ room-after w k n (b ∷ bs) ws h r =
     let x = getD ws n 0 + digit b * 2 ^ k in
     let e : n + suc (length bs) ≡ n + 1 + length bs = omega arith in
     let l = length-set ws n x in
-    rw (e, add-cons n k b bs ws (omega arith)) (room-after w k (n + 1) bs (set ws n x) (omega arith) (room-set w k n x ws (omega arith) r))
+    rw (e, add-cons n k b bs ws (omega arith)) (room-after w k (n + 1) bs (set ws n x) (omega arith) (room-set w (suc k) n x ws (omega arith) r))

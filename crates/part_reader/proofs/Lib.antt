@@ -3,3 +3,4 @@ pub mod Parts
 pub mod Adding
 pub mod Stages
 pub mod Fours
+pub mod Lanes

@@ -2,10 +2,10 @@
 use mathlib.Core.Path.{_≡_}
 use mathlib.Core.Bool.{Bool, true, false, cond}
 use mathlib.Core.List.{List, [], _∷_}
-use Prim.Native.Nat.{ℕ, zero, suc, _+_, _*_, _^_}
+use Prim.Native.Nat.{ℕ, zero, suc, _+_, _*_, _/_, _^_}
 use lib.Dec.{eqb}
 use lib.ListN.{length, take, drop}
-use Rattle.bits.specs.Stream.{bit, digit, numberOf}
+use Rattle.bits.specs.Stream.{bit, digit, numberBits, numberOf}
 use Rattle.planes.specs.Reader.{addPlane}
 
 -- what reading a part gives: the bits of the places passed, the bits left, and the stage that follows:
@@ -63,3 +63,14 @@ addPlanes N (suc m) k s ws = addPlanes N m k (drop N s) (addPlane (k + m) (take 
 -- the bits at places 0, 4, 8 and 12 of a number, the first of them highest
 abbrev pub column : ℕ → ℕ
 column x = digit (bit 0 x) * 8 + digit (bit 4 x) * 4 + digit (bit 8 x) * 2 + digit (bit 12 x)
+
+-- ---- planes of at most 16 places, as one number
+
+-- the words with m planes of N places added, from plane k + m - 1 down to plane k: v has 16 bits for each, those of plane k lowest
+abbrev pub addLanes : ℕ → ℕ → ℕ → ℕ → List ℕ → List ℕ
+addLanes zero N k v ws = ws
+addLanes (suc m) N k v ws = addPlane k (numberBits N v) (addLanes m N (k + 1) (v / 2 ^ 16) ws)
+
+-- the bits at places 48, 32, 16 and 0 of a number, the first of them highest
+abbrev pub lane : ℕ → ℕ
+lane y = digit (bit 48 y) * 8 + digit (bit 32 y) * 4 + digit (bit 16 y) * 2 + digit (bit 0 y)

@@ -4,7 +4,7 @@ ghost use Prim.Native.Nat.{suc, _+_, _*_, _/_, _^_, _≤_, _<_};
 ghost use lib.ListN.{length, drop, getD, set};
 ghost use Rattle.bits.specs.Stream.{digit, numberBits};
 ghost use Rattle.planes.specs.Calls.{addAt, Room};
-ghost use Rattle.part_reader.specs.Calls.{partTest, partScan, partStage, PartRead, addPlanes, column};
+ghost use Rattle.part_reader.specs.Calls.{partTest, partScan, partStage, PartRead, addPlanes, column, addLanes, lane};
 
 // What comes next in a plane: a test, the rest of a scan, or nothing, as the plane is done or the budget cuts it.
 pub const TEST: u32 = 0;
@@ -160,12 +160,20 @@ fn gathered(x: u64) -> u64
     x % 2 * 8 + x / 16 % 2 * 4 + x / 256 % 2 * 2 + x / 4096 % 2
 }
 
+// Bits k + 3 down to k of word i: the number c.
+fn add_digits(words: &mut [u64], k: u32, i: usize, c: u64)
+    requires { ⌜ (k + 4 ≤ 64) × (i < length (now words)) × (c < 16) × (getD (now words) i 0 + 2 ^ (k + 4) ≤ 2 ^ 64) ⌝ }
+    ensures { λ _. ⌜ now (words .exit) ≡ set (now (words .entry)) i (getD (now (words .entry)) i 0 + c * 2 ^ k) ⌝ }
+{
+    words[i] = words[i] + c * plane_weight(k);
+}
+
 // Bits k + 3 down to k of word i: the bits at places i, i + 4, i + 8 and i + 12 of v.
 fn add_column(words: &mut [u64], k: u32, i: usize, v: u64)
     requires { ⌜ (k + 4 ≤ 64) × (i < length (now words)) × (i < 64) × (getD (now words) i 0 + 2 ^ (k + 4) ≤ 2 ^ 64) ⌝ }
     ensures { λ _. ⌜ now (words .exit) ≡ set (now (words .entry)) i (getD (now (words .entry)) i 0 + column (v / 2 ^ i) * 2 ^ k) ⌝ }
 {
-    words[i] = words[i] + gathered(v >> i) * plane_weight(k);
+    add_digits(words, k, i, gathered(v >> i));
 }
 
 // The planes k + 3 down to k of four words, which are the 16 lowest bits of v.
@@ -177,4 +185,23 @@ pub fn add_four(words: &mut [u64], k: u32, v: u64)
     add_column(words, k, 1, v);
     add_column(words, k, 2, v);
     add_column(words, k, 3, v);
+}
+
+// The four bits of y at places 48, 32, 16 and 0, as a number, the first of them highest.
+fn laned(y: u64) -> u64
+    ensures { λ r. ⌜ r ≡ lane y ⌝ }
+{
+    (y >> 48) % 2 * 8 + (y >> 32) % 2 * 4 + (y >> 16) % 2 * 2 + y % 2
+}
+
+// The planes k + 3 down to k of the `count` first words: v has 16 bits for each plane, those of plane k + 3 highest.
+pub fn add_lanes(words: &mut [u64], k: u32, count: usize, v: u64)
+    requires { ⌜ (k + 4 ≤ 64) × (count ≤ length (now words)) × (count ≤ 16) × Room 64 (k + 4) (now words) ⌝ }
+    ensures { λ _. ⌜ now (words .exit) ≡ addLanes 4 count k v (now (words .entry)) ⌝ }
+{
+    let mut i = 0;
+    while i < count {
+        add_digits(words, k, i, laned(v >> i));
+        i += 1;
+    }
 }

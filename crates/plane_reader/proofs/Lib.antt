@@ -4,3 +4,4 @@ pub mod Tests
 pub mod Short
 pub mod Reading
 pub mod Runs
+pub mod Groups

@@ -59,7 +59,7 @@ module _ (base k n : ℕ) (ws : List ℕ) (s : List Bool) (h : base < k) (l : n 
         count = rw (fewer, e) (omega arith);
       }
 
-whole-plane : {ws ws′ : List ℕ} {d : List Bool} {w : Window} {n′ : ℕ} {whole′ : Bool} (base k n at end : ℕ) → base < k → n ≤ length ws
+pub whole-plane : {ws ws′ : List ℕ} {d : List Bool} {w : Window} {n′ : ℕ} {whole′ : Bool} (base k n at end : ℕ) → base < k → n ≤ length ws
     → Room 64 k ws → PlaneRead ws ws′ (k - 1) n d at end w n′ whole′ → whole′ ≡ true
     → Whole base ws k n (slice at end d) ws′ (k - 1) n′ (slice (place w) end d)
 whole-plane {ws} {d = d} base k n at end h l room r e =
@@ -67,8 +67,14 @@ whole-plane {ws} {d = d} base k n at end h l room r e =
 
 pub some-one : {ws ws′ : List ℕ} {d : List Bool} {w : Window} {n′ : ℕ} {whole′ : Bool} (base k n at end : ℕ) → base < k → n ≤ length ws
     → Room 64 k ws → PlaneRead ws ws′ (k - 1) n d at end w n′ whole′ → SomeRead base ws ws′ k n d at end w n′ (k - 1) whole′
-some-one base k n at end h l room r =
-    record { holds = r .holds; less = omega arith; whole = λ e. whole-plane base k n at end h l room r e; cut = λ e. (refl, rw e at r) }
+some-one {ws} {d = d} base k n at end h l room r =
+    let none = whole-none base k n ws (slice at end d) (omega arith) l room in
+    record {
+      holds = r .holds;
+      less = omega arith;
+      whole = λ e. whole-plane base k n at end h l room r e;
+      cut = λ e. record { words₁ = ws; n₁ = n; at₁ = at; k₁ = k; last = refl; some = h; whole = none; plane = rw e at r };
+    }
 
 -- ---- planes with no one
 

@@ -1,55 +1,42 @@
--- A plane of at most 16 places, read through one window. Assumes nothing.
+-- A plane of at most 16 places, read as a number through one window. Assumes nothing.
 use mathlib.Core.Path.{_≡_, refl, sym, ap, _∙_}
-use mathlib.Core.Bool.{Bool, true}
+use mathlib.Core.Bool.{Bool, true, false}
 use mathlib.Core.List.{List, [], _++_, append-nil}
 use Prim.Native.Nat.{ℕ, zero, suc, _+_, _-_, _*_, _/_, _%_, _^_, _≤_, _<_}
-use native.Mathlib.Nat.{add-zero, mod-lt}
+use native.Mathlib.Nat.{add-zero, lt-of-lt-of-le}
 use native.Mathlib.Omega.{arith}
-use borrow.Author.Tests.{le-leb, le-ltb}
+use borrow.Author.Tests.{le-leb, lt-leb, le-ltb}
 use lib.Dec.{leb, ltb}
-use lib.ListN.{length, take, drop}
-use lib.Pow.{pow-pos, high}
-use lib.Seq.{slice, length-slice, drop-append-le}
+use lib.ListN.{length, take, drop, length-append, length-take}
+use lib.Pow.{pow-mono}
+use lib.Seq.{slice, length-slice, drop-append-le, take-all}
 use Rattle.bits.specs.Stream.{numberBits, numberOf}
-use Rattle.bits.proofs.NumberLaws.{length-numberBits, numberBits-add, numberBits-low, numberBits-mod, bits-back}
+use Rattle.bits.proofs.NumberLaws.{length-numberBits, number-low, numberOf-append, numberOf-lt}
 use Rattle.bits.proofs.StreamLaws.{slice-rest, slice-none}
 use Rattle.bit_reader.specs.declared.Window.{Window}
 use Rattle.bit_reader.specs.Calls.{place, Filled, Taken, shorter}
 use Rattle.bit_reader.proofs.Windows.{shorter-holds, unread, next-bits}
 use Rattle.planes.specs.Reader.{readTest, readPlane, readNext}
 use Rattle.planes.specs.Calls.{addAt}
+use Rattle.planes.proofs.Range.{next-le}
 use Rattle.part_reader.specs.Calls.{Part, partTest, PartRead}
-use Rattle.plane_reader.specs.Calls.{ShortRead, PlaneRead}
+use Rattle.plane_reader.specs.Calls.{ShortRead, NumberRead, PlaneRead}
+use Rattle.part_reader.proofs.Lanes.{add-number}
 use Rattle.part_reader.proofs.Stages.{readStage, pushAll, ended, stage-last, Follows, test-follows, Takes, stage-takes}
+use Rattle.plane_reader.proofs.Reading.{test-nothing, none-left}
 
--- the number that the n first bits and a part after them make
-module _ {p : Part} {x′ to stage left : ℕ} (b n : ℕ) (r : PartRead p n (b % 2 ^ n) x′ to stage left) where
-  short-bits : numberBits to x′ ≡ numberBits n b ++ p .bits
-  short-bits =
-      let top = numberOf (p .bits) in
-      let e : x′ ≡ top * 2 ^ n + b % 2 ^ n = omega (arith, r .number) in
-      rw (
-        r .moved,
-        numberBits-add n (length (p .bits)) x′,
-        e,
-        high top n (mod-lt b (pow-pos n)),
-        numberBits-low n top (b % 2 ^ n),
-        numberBits-mod n b,
-        bits-back (p .bits),
-      )
+-- the n first bits and a part after them make one number
+pub short-read : {p : Part} {w w′ : Window} {x′ to stage left : ℕ} (n : ℕ) → PartRead p n (w .bits % 2 ^ n) x′ to stage left
+    → w′ ≡ shorter w (w .count - left) → ShortRead n w p w′ to (ltb stage 3) x′
+short-read {p} {w} n r g =
+    let first = numberBits n (w .bits) in
+    let e : numberOf (first ++ p .bits) ≡ w .bits % 2 ^ n + numberOf (p .bits) * 2 ^ n =
+    numberOf-append first (p .bits) ∙ rw (number-low n (w .bits), length-numberBits n (w .bits)) in
+    record { number = omega (arith, r .number, e); moved = r .moved; window = rw (r .left) at g; whole = rw (r .stage) }
 
-pub short-read : {ws ws′ : List ℕ} {k : ℕ} {p : Part} {w w′ : Window} {x′ to stage left : ℕ} (n : ℕ)
-    → PartRead p n (w .bits % 2 ^ n) x′ to stage left → ws′ ≡ addAt 0 k (numberBits to x′) ws → w′ ≡ shorter w (w .count - left)
-    → ShortRead ws ws′ k n w p w′ to (ltb stage 3)
-short-read {w = w} n r e g =
-    record { words = rw (short-bits (w .bits) n r) at e; moved = r .moved; window = rw (r .left) at g; whole = rw (r .stage) }
-
--- a part passes at most its places, and leaves at most the bits that there were
-pub short-fits : {n x x′ to stage left : ℕ} (have b m : ℕ) → PartRead (partTest (numberBits have b) m 1) n x x′ to stage left
-    → (to ≤ n + m) × (left ≤ have)
-short-fits have b m r =
-    let takes = stage-takes 0 (numberBits have b) m 1 in
-    (omega (arith, r .moved, takes .within), omega (arith, r .left, takes .fewer, length-numberBits have b))
+-- a part leaves at most the bits that there were
+pub short-left : {n x x′ to stage left : ℕ} (have b m : ℕ) → PartRead (partTest (numberBits have b) m 1) n x x′ to stage left → left ≤ have
+short-left have b m r = omega (arith, r .left, stage-takes 0 (numberBits have b) m 1 .fewer, length-numberBits have b)
 
 -- the last part of a plane ends it
 last-ends : (g : ℕ) (s : List Bool) → (g ≡ 1 → 0 < 0) → readStage g s 0 ≡ ended s (ltb g 3)
@@ -58,8 +45,8 @@ last-ends (suc zero) s h = absurd (omega (arith, h refl))
 last-ends (suc (suc zero)) s h = refl
 last-ends (suc (suc (suc g))) s h = rw (le-ltb (suc (suc (suc g))) 3 (omega arith))
 
-module _ {d : List Bool} {end : ℕ} {w r : Window} (ws : List ℕ) (n : ℕ) (long : end ≤ length d) (f : Filled d end w r) (few : n ≤ length ws)
-    (short : length ws ≤ 16) (have : n ≤ r .count) where
+module _ {d : List Bool} {end : ℕ} {w r : Window} (N n : ℕ) (long : end ≤ length d) (f : Filled d end w r) (few : n ≤ N) (short : N ≤ 16)
+    (have : n ≤ r .count) where
   abbrev s : List Bool
   s = slice (place w) end d
 
@@ -70,7 +57,7 @@ module _ {d : List Bool} {end : ℕ} {w r : Window} (ws : List ℕ) (n : ℕ) (l
   more = slice (r .at) end d
 
   abbrev m : ℕ
-  m = length ws - n
+  m = N - n
 
   abbrev p : Part
   p = partTest t m 1
@@ -113,14 +100,66 @@ module _ {d : List Bool} {end : ℕ} {w r : Window} (ws : List ℕ) (n : ℕ) (l
   enough : leb n (length s) ≡ true
   enough = le-leb n (length s) (omega (arith, length-slice (place w) end d long, f .still, f .holds .back, f .holds .within))
 
-  pub short-plane : {ws′ : List ℕ} {k : ℕ} {w′ : Window} {n′ : ℕ} {whole′ : Bool} → ShortRead ws ws′ k n r p w′ n′ whole′
-      → PlaneRead ws ws′ k n d (place w) end w′ n′ whole′
-  unfolding readPlane readNext addAt
-  short-plane z =
+  pub short-number : {w′ : Window} {n′ : ℕ} {whole′ : Bool} {x : ℕ} → ShortRead n r p w′ n′ whole′ x → NumberRead N n d (place w) end w′ n′ whole′ x
+  unfolding readPlane readNext
+  short-number z =
       record {
-        words = z .words ∙ rw (first, got, append-nil);
+        number = z .number ∙ rw (first, got, append-nil);
         moved = z .moved ∙ rw (got, append-nil);
         holds = rw (z .window) (shorter-holds (r .count - length (p .rest)) (f .holds) long (omega arith) .holds);
         left = rw (z .window, got) after;
         whole = z .whole ∙ rw (got, enough);
       }
+
+-- first bits that the budget cuts are all the bits that are left
+module _ {d : List Bool} {end : ℕ} {w r : Window} (N n : ℕ) (long : end ≤ length d) (f : Filled d end w r) (few : n ≤ 16) (short : r .count < n) where
+  last : r .at ≡ end
+  last = full (λ h. omega (arith, f .full h))
+    where
+      full : (r .at < end → ⊥) → r .at ≡ end
+      full never = omega (arith, f .holds .within)
+
+  pub number-cut : {w′ : Window} → w′ ≡ shorter r (r .count) → NumberRead N n d (place w) end w′ n false (r .bits)
+  unfolding readPlane readNext
+  number-cut e =
+      let s = slice (place w) end d in
+      let l : length s < n = omega (arith, length-slice (place w) end d long, f .still, f .holds .back, last) in
+      let no = lt-leb n (length s) l in
+      let none = none-left n s no in
+      let nothing = test-nothing (N - n) in
+      record {
+        number = f .holds .same ∙ rw (f .still, last, none, nothing .0, append-nil, take-all n s (omega arith));
+        moved = rw (none, nothing .0) (sym (add-zero n));
+        holds = rw e (shorter-holds (r .count) (f .holds) long (omega arith) .holds);
+        left = rw (e, none, nothing .1) (slice-none d (r .at - (r .count - r .count)) end (omega (arith, last)));
+        whole = rw no;
+      }
+
+-- ---- the number of a plane, and its bits
+
+bits-fit : (N n : ℕ) (s : List Bool) → (length (readPlane N n s .bits) ≤ readNext N n s) × (n ≤ readNext N n s)
+unfolding readPlane readNext
+bits-fit N n s = (simp (length-append, length-take) (omega arith), omega arith)
+
+module _ {N n : ℕ} {d : List Bool} {at end : ℕ} {w : Window} {n′ : ℕ} {whole′ : Bool} {x : ℕ} (r : NumberRead N n d at end w n′ whole′ x) (few : n ≤ N) where
+  pub number-next : (n ≤ n′) × (n′ ≤ N)
+  number-next = let e = r .moved in (omega (arith, bits-fit N n (slice at end d) .1), omega (arith, next-le N n (slice at end d) few))
+
+  pub number-bits : length (readPlane N n (slice at end d) .bits) ≤ n′
+  number-bits = omega (arith, r .moved, bits-fit N n (slice at end d) .0)
+
+  pub number-lt : x < 2 ^ n′
+  number-lt = rw (r .number) (lt-of-lt-of-le (numberOf-lt (readPlane N n (slice at end d) .bits)) (pow-mono number-bits))
+
+-- it is added to the words
+pub number-plane : {ws ws′ : List ℕ} {d : List Bool} {w : Window} {n′ : ℕ} {whole′ : Bool} {x : ℕ} (k n at end : ℕ) → n ≤ length ws
+    → NumberRead (length ws) n d at end w n′ whole′ x → ws′ ≡ addAt 0 k (numberBits n′ x) ws → PlaneRead ws ws′ k n d at end w n′ whole′
+unfolding addAt
+number-plane {ws} {d = d} {n′ = n′} k n at end few r e =
+    record {
+      words = e ∙ rw (r .number) (add-number n′ k (readPlane (length ws) n (slice at end d) .bits) ws (number-bits r few));
+      moved = r .moved;
+      holds = r .holds;
+      left = r .left;
+      whole = r .whole;
+    }

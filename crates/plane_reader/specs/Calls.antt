@@ -6,7 +6,7 @@ use Prim.Native.Nat.{ℕ, _+_, _-_, _≤_, _<_}
 use lib.Dec.{leb, ltb}
 use lib.ListN.{length, take, drop, replicate}
 use lib.Seq.{slice}
-use Rattle.bits.specs.Stream.{numberBits}
+use Rattle.bits.specs.Stream.{numberBits, numberOf}
 use Rattle.bit_reader.specs.declared.Window.{Window}
 use Rattle.bit_reader.specs.Calls.{place, Holds, shorter}
 use Rattle.planes.specs.Reader.{Got, readPlane, readNext, addPlane, readFrom, readWords, wholeFrom, wholePlanes}
@@ -29,12 +29,20 @@ pub record FirstRead (ws ws′ : List ℕ) (k n : ℕ) (d : List Bool) (end : �
   pub left : slice (place w) end d ≡ drop n s
   pub whole : whole′ ≡ leb n (length s)
 
--- what reading plane k at n through the window w alone does: its n first bits and those of p, the part of all the places after them
-pub record ShortRead (ws ws′ : List ℕ) (k n : ℕ) (w : Window) (p : Part) (w′ : Window) (n′ : ℕ) (whole′ : Bool) : Type 0 where
-  pub words : ws′ ≡ addAt 0 k (numberBits n (w .bits) ++ p .bits) ws
+-- what reading a plane at n through the window w alone does: x has its n first bits and those of p, the part of all the places after them
+pub record ShortRead (n : ℕ) (w : Window) (p : Part) (w′ : Window) (n′ : ℕ) (whole′ : Bool) (x : ℕ) : Type 0 where
+  pub number : x ≡ numberOf (numberBits n (w .bits) ++ p .bits)
   pub moved : n′ ≡ n + length (p .bits)
   pub window : w′ ≡ shorter w (w .count - length (p .rest))
   pub whole : whole′ ≡ ltb (p .stage) 3
+
+-- what reading a plane of N places at n as a number does, from the place `at` of the stream d on
+pub record NumberRead (N n : ℕ) (d : List Bool) (at end : ℕ) (w : Window) (n′ : ℕ) (whole′ : Bool) (x : ℕ) : Type 0 where
+  pub number : x ≡ numberOf (readPlane N n (slice at end d) .bits)
+  pub moved : n′ ≡ readNext N n (slice at end d)
+  pub holds : Holds d end w
+  pub left : slice (place w) end d ≡ readPlane N n (slice at end d) .rest
+  pub whole : whole′ ≡ readPlane N n (slice at end d) .whole
 
 -- what reading plane k at n does, from the place `at` of the stream d on
 pub record PlaneRead (ws ws′ : List ℕ) (k n : ℕ) (d : List Bool) (at end : ℕ) (w : Window) (n′ : ℕ) (whole′ : Bool) : Type 0 where
@@ -63,12 +71,23 @@ pub record Whole (base : ℕ) (ws : List ℕ) (k n : ℕ) (s : List Bool) (ws′
   pub left : restFrom (length ws) (k′ - base) n′ s′ ≡ restFrom (length ws) (k - base) n s
   pub count : k - k′ + wholeFrom (length ws) (k′ - base) n′ s′ ≡ wholeFrom (length ws) (k - base) n s
 
--- what reading some planes at n from plane k - 1 downward does: they are whole, or the budget cuts the only one
+-- what reading planes at n from plane k - 1 down to plane k′ does, of which the budget cuts the last: those above it are whole
+pub record CutRead (base : ℕ) (ws ws′ : List ℕ) (k n : ℕ) (d : List Bool) (at end : ℕ) (w : Window) (n′ k′ : ℕ) : Type 0 where
+  pub words₁ : List ℕ
+  pub n₁ : ℕ
+  pub at₁ : ℕ
+  pub k₁ : ℕ
+  pub last : k′ ≡ k₁ - 1
+  pub some : base < k₁
+  pub whole : Whole base ws k n (slice at end d) words₁ k₁ n₁ (slice at₁ end d)
+  pub plane : PlaneRead words₁ ws′ (k₁ - 1) n₁ d at₁ end w n′ false
+
+-- what reading some planes at n from plane k - 1 downward does: they are whole, or the budget cuts the last one
 pub record SomeRead (base : ℕ) (ws ws′ : List ℕ) (k n : ℕ) (d : List Bool) (at end : ℕ) (w : Window) (n′ k′ : ℕ) (whole′ : Bool) : Type 0 where
   pub holds : Holds d end w
   pub less : k′ < k
   pub whole : whole′ ≡ true → Whole base ws k n (slice at end d) ws′ k′ n′ (slice (place w) end d)
-  pub cut : whole′ ≡ false → (k′ ≡ k - 1) × PlaneRead ws ws′ (k - 1) n d at end w n′ false
+  pub cut : whole′ ≡ false → CutRead base ws ws′ k n d at end w n′ k′
 
 -- what reading p planes of N words of w bits does: where it stopped, and how many planes were whole
 pub record PlanesRead (w : ℕ) (ws′ : List ℕ) (N p : ℕ) (d : List Bool) (at end at′ whole′ : ℕ) : Type 0 where

@@ -62,7 +62,7 @@ loop-again c =
     let next : a .i + (l .j + 1) ≡ place + 1 = omega arith in (
       search needs,
       call .add-bit .kept .0 ∙ l .inv .1,
-      rw (next, call .add-bit .ensures) (room-set 64 (a .k) place _ (l .words) few (l .inv .2)),
+      rw (next, call .add-bit .ensures) (room-set 64 (suc (a .k)) place _ (l .words) few (l .inv .2)),
       rw (next, call .add-bit .ensures, ← (shr-shr (a .x) (l .j) 1)) (sym (add-cons place (a .k) _ _ (l .words) few) ∙ (rw e at (l .inv .3))),
     )
 

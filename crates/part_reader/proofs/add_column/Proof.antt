@@ -1,18 +1,9 @@
--- One store, of the word with four bits added. Assumes nothing.
-use Rattle.part_reader.specs.Calls.{column}
-use Rattle.part_reader.proofs.Fours.{column-lt, four-fit}
-use lib.ListN.{getD}
-use native.Mathlib.Omega.{arith}
-use Prim.Native.Nat.{_+_, _*_, _/_, _^_, _<_}
+-- The word takes the number of its column. Assumes nothing.
+use Rattle.part_reader.proofs.Fours.{column-lt}
+use Prim.Native.Nat.{_/_, _^_}
 use borrow.Author.Needs.{needs}
 use Rattle.part_reader.proofs.add_column.Statement.{statement}
 use Rattle.part_reader.proofs.add_column.Tie as tie
-
-mul-words : tie.Need-mul-words
-mul-words c = search needs
-
-slice-read-words : tie.Need-slice-read-words
-slice-read-words c = search needs
 
 shr-gathered : tie.Need-shr-gathered
 shr-gathered c = search needs
@@ -20,49 +11,18 @@ shr-gathered c = search needs
 gathered-requires : tie.Need-gathered-requires
 gathered-requires c κs = search needs
 
-plane-weight-requires : tie.Need-plane-weight-requires
-plane-weight-requires c κs = search needs
-
--- the sum fits
-fits : (c : tie.After-plane-weight)
-    → let a = c .before .before .before .before .args in
-    getD (a .words .now) (a .i) 0 + c .before .gathered .result * c .plane-weight .result < 2 ^ 64
-fits c =
-    let s = c .before .before .before .before in
+add-digits-requires : tie.Need-add-digits-requires
+add-digits-requires c κs =
+    let s = c .before .before .before in
     let a = s .args in
-    rw (c .before .gathered .ensures, c .plane-weight .ensures)
-    (four-fit (getD (a .words .now) (a .i) 0) (column (a .v / 2 ^ a .i)) (a .k) (column-lt (a .v / 2 ^ a .i)) (s .pre .3))
-
-mul-words-2 : tie.Need-mul-words-2
-mul-words-2 c = let h = fits c in omega arith
-
-add-words : tie.Need-add-words
-add-words c = record { fits = fits c }
-
-mul-words-3 : tie.Need-mul-words-3
-mul-words-3 c = search needs
-
-slice-write-words : tie.Need-slice-write-words
-slice-write-words c = search needs
+    (s .pre .0, s .pre .1, rw (c .gathered .ensures) (column-lt (a .v / 2 ^ a .i)), s .pre .3)
 
 same-length : tie.Need-same-length
 same-length c = search needs
 
 returns : tie.Need-returns
-returns c = rw (c .before .gathered .ensures, c .plane-weight .ensures)
+returns c = rw (← (c .before .before .before .gathered .ensures)) (c .before .before .add-digits .ensures)
 
 pub add-column-spec : {M : Type 1} → statement M
 add-column-spec =
-    tie.close
-    (tie.spec
-    mul-words
-    slice-read-words
-    shr-gathered
-    gathered-requires
-    plane-weight-requires
-    mul-words-2
-    add-words
-    mul-words-3
-    slice-write-words
-    same-length
-    returns)
+    tie.close (tie.spec shr-gathered gathered-requires add-digits-requires same-length returns)

@@ -1,89 +1,29 @@
--- The n first bits and the part of all places after them make one number, whose bits go into the words. Assumes nothing.
-use Rattle.plane_reader.proofs.Short.{short-read, short-fits}
-use lib.ListN.{length}
-use lib.Pow.{pow-pos}
-use native.Mathlib.Nat.{mod-lt}
+-- The number of the plane is added to the words. Assumes nothing.
+use Rattle.plane_reader.proofs.Short.{number-next, number-plane}
+use Rattle.bit_reader.specs.Calls.{place}
 use native.Mathlib.Omega.{arith}
-use Prim.Native.Nat.{_+_, _-_, _/_, _^_, _≤_}
 use borrow.Author.Needs.{needs}
 use Rattle.plane_reader.proofs.read_short.Statement.{statement}
 use Rattle.plane_reader.proofs.read_short.Tie as tie
 
-cast-first : tie.Need-cast-first
-cast-first c = search needs
-
-sub-m : tie.Need-sub-m
-sub-m c = search needs
-
-cast-m : tie.Need-cast-m
-cast-m c = search needs
-
-plane-weight-requires : tie.Need-plane-weight-requires
-plane-weight-requires c κs = search needs
-
-rem-x : tie.Need-rem-x
-rem-x c = omega (arith, pow-pos (c .before .before .before .args .n), c .before .plane-weight .ensures)
-
-cast-read-test : tie.Need-cast-read-test
-cast-read-test c = search needs
-
-shr-read-test : tie.Need-shr-read-test
-shr-read-test c = search needs
-
-sub-read-test : tie.Need-sub-read-test
-sub-read-test c = search needs
-
-read-test-requires : tie.Need-read-test-requires
-read-test-requires c κs =
-    let weight = c .before .before .before .before .before in
-    let s = weight .before .before in
-    (omega arith, rw (weight .plane-weight .ensures) (mod-lt (s .args .w .bits) (pow-pos (s .args .n))))
-
--- what the part that is read passes and leaves
-fits : (c : tie.After-read-test)
-    → let a = c .before .before .before .before .before .before .before .before .args in
-    (c .read-test .last .1 .1 .1 .1 .1 .1 .0 ≤ a .n + (length (a .words .now) - a .n)) × (c .read-test .result ≤ a .w .count - a .n)
-fits c =
-    let a = c .before .before .before .before .before .before .before .before .args in
-    short-fits (a .w .count - a .n) (a .w .bits / 2 ^ a .n) (length (a .words .now) - a .n) (c .read-test .ensures)
+read-number-requires : tie.Need-read-number-requires
+read-number-requires c κs = search needs
 
 add-bits-requires : tie.Need-add-bits-requires
 add-bits-requires c κs =
-    let read = c .before .before in
-    let s = read .before .before .before .before .before .before .before .before in
-    (s .pre .0, omega (arith, fits read .0), omega (arith, fits read .0), s .pre .5)
-
-sub-taken : tie.Need-sub-taken
-sub-taken c = omega (arith, fits (c .before .before .before .before .before) .1)
-
-taken-requires : tie.Need-taken-requires
-taken-requires c κs = search needs
+    let s = c .before .before .before .before .before in
+    let next = number-next (c .before .before .read-number .ensures) (s .pre .1) in
+    (s .pre .0, omega arith, omega arith, s .pre .6)
 
 same-length : tie.Need-same-length
 same-length c = search needs
 
 returns : tie.Need-returns
 returns c =
-    let read = c .before .before .before .before .before .before in
-    let weight = read .before .before .before .before .before .before in
-    let a = weight .before .before .args in
-    short-read (a .n) (rw (weight .plane-weight .ensures) at (read .read-test .ensures)) (c .before .before .before .add-bits .ensures) (c .taken .ensures)
+    let read = c .before .before .before .before .before in
+    let s = read .before .before .before in
+    let a = s .args in
+    number-plane (a .k) (a .n) (place (a .w)) (a .end) (s .pre .1) (read .read-number .ensures) (c .before .before .add-bits .ensures)
 
 pub read-short-spec : {M : Type 1} → statement M
-read-short-spec =
-    tie.close
-    (tie.spec
-    cast-first
-    sub-m
-    cast-m
-    plane-weight-requires
-    rem-x
-    cast-read-test
-    shr-read-test
-    sub-read-test
-    read-test-requires
-    add-bits-requires
-    sub-taken
-    taken-requires
-    same-length
-    returns)
+read-short-spec = tie.close (tie.spec read-number-requires add-bits-requires same-length returns)

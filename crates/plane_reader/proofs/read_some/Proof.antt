@@ -1,4 +1,4 @@
--- Four planes that the window has, or one plane. Assumes nothing.
+-- Four planes that the window has, a group of planes, or one plane. Assumes nothing.
 use Rattle.plane_reader.proofs.Runs.{some-one, some-four}
 use Rattle.bit_reader.specs.Calls.{place}
 use Rattle.bit_reader.proofs.Windows.{within-bits}
@@ -53,24 +53,51 @@ returns c =
     some-four (a .base) (a .k) (a .words .now) (s .pre .6) (filled .refill .ensures) (within-bits (a .buf .now) (s .pre .3)) (fours (filled .before))
     (test .if2 .taken) (c .before .before .before .add-four .ensures) (c .taken .ensures)
 
-sub-read-plane : tie.Need-sub-read-plane
-sub-read-plane c = search needs
+sub-group-next : tie.Need-sub-group-next
+sub-group-next c = search needs
 
-read-plane-requires : tie.Need-read-plane-requires
-read-plane-requires c κs =
-    let s = c .before .before .before .before .before in
-    let e : s .args .k ≡ suc (s .args .k - 1) = omega (arith, s .pre .0) in
-    (omega (arith, s .pre .0, s .pre .1), s .pre .2, s .pre .3, s .pre .4, s .pre .5, rw e at (s .pre .6))
+group-next-requires : tie.Need-group-next-requires
+group-next-requires c κs = search needs
 
-sub-t13 : tie.Need-sub-t13
-sub-t13 c = search needs
+-- what is known where a group is next
+group : (c : tie.Then3)
+    → let a = c .before .before .before .before .before .before .args in
+    (length (a .words .now) ≤ 16) × (4 ≤ a .k - a .base)
+group c = c .before .group-next .ensures (c .if3 .taken)
+
+read-group-requires : tie.Need-read-group-requires
+read-group-requires c κs =
+    let g = group (c .before) in
+    let s = c .before .before .before .before .before .before .before in
+    (omega arith, s .pre .1, s .pre .2, g .0, s .pre .3, s .pre .4, s .pre .5, s .pre .6)
 
 same-length-2 : tie.Need-same-length-2
 same-length-2 c = search needs
 
 returns-2 : tie.Need-returns-2
 returns-2 c =
-    let s = c .before .before .before .before .before .before .before .before .before in
+    let call = c .before .before in
+    let g = group (call .before .before) in
+    call .read-group .ensures _ (omega arith)
+
+sub-read-plane : tie.Need-sub-read-plane
+sub-read-plane c = search needs
+
+read-plane-requires : tie.Need-read-plane-requires
+read-plane-requires c κs =
+    let s = c .before .before .before .before .before .before .before in
+    let e : s .args .k ≡ suc (s .args .k - 1) = omega (arith, s .pre .0) in
+    (omega (arith, s .pre .0, s .pre .1), s .pre .2, s .pre .3, s .pre .4, s .pre .5, rw e at (s .pre .6))
+
+sub-t13 : tie.Need-sub-t13
+sub-t13 c = search needs
+
+same-length-3 : tie.Need-same-length-3
+same-length-3 c = search needs
+
+returns-3 : tie.Need-returns-3
+returns-3 c =
+    let s = c .before .before .before .before .before .before .before .before .before .before .before in
     let a = s .args in
     some-one (a .base) (a .k) (a .n) (place (a .w)) (a .end) (s .pre .0) (s .pre .2) (s .pre .6) (c .before .before .before .read-plane .ensures)
 
@@ -87,8 +114,13 @@ read-some-spec =
     sub-t18
     same-length
     returns
+    sub-group-next
+    group-next-requires
+    read-group-requires
+    same-length-2
+    returns-2
     sub-read-plane
     read-plane-requires
     sub-t13
-    same-length-2
-    returns-2)
+    same-length-3
+    returns-3)
