@@ -1,6 +1,6 @@
 -- Bits of a plane added to the words from a place on, and the room for them. Assumes nothing.
-use mathlib.Core.Path.{_≡_, sym, _∙_}
-use mathlib.Core.Bool.{Bool, false}
+use mathlib.Core.Path.{_≡_, refl, sym, ap}
+use mathlib.Core.Bool.{Bool}
 use mathlib.Core.List.{List, [], _∷_, _++_}
 use Prim.Native.Nat.{ℕ, zero, suc, _+_, _*_, _^_, _≤_, _<_}
 use native.Mathlib.Nat.{add-zero, pow-suc}
@@ -8,7 +8,7 @@ use native.Mathlib.Numerals.{add-one}
 use native.Mathlib.Omega.{arith}
 use lib.ListN.{length, getD, set, take, drop, length-set, take-append-drop}
 use lib.Pow.{pow-pos}
-use lib.Seq.{set-getD, take-suc-set, drop-cons, drop-set-lt, append-snoc}
+use lib.Seq.{take-suc-set, drop-cons, drop-set-lt, append-snoc}
 use Rattle.bits.specs.Stream.{digit, numberBits}
 use Rattle.planes.specs.Reader.{addPlane}
 use Rattle.planes.specs.Calls.{addAt, Room}
@@ -25,15 +25,15 @@ add-cons n k b bs ws h =
     rw (add-one, drop-cons ws n 0 h, take-suc-set ws n x h, drop-set-lt (suc n) ws n x (omega arith))
     (sym (append-snoc (take n ws) x (addPlane k bs (drop (suc n) ws))))
 
-add-false : (n k : ℕ) (bs : List Bool) (ws : List ℕ) → n < length ws → addAt n k (false ∷ bs) ws ≡ addAt (n + 1) k bs ws
-add-false n k bs ws h =
-    let e : getD ws n 0 + 0 * 2 ^ k ≡ getD ws n 0 = omega arith in
-    add-cons n k false bs ws h ∙ rw (e, set-getD ws n 0)
-
 -- zeros add nothing
-pub add-zeros : (n k c : ℕ) (ws : List ℕ) → n + c ≤ length ws → addAt n k (numberBits c 0) ws ≡ ws
-add-zeros n k zero ws h = add-none n k ws
-add-zeros n k (suc c) ws h = add-false n k (numberBits c 0) ws (omega arith) ∙ add-zeros (n + 1) k c ws (omega arith)
+pub plane-zeros : (c k : ℕ) (ws : List ℕ) → addPlane k (numberBits c 0) ws ≡ ws
+plane-zeros zero k ws = refl
+plane-zeros (suc c) k [] = refl
+plane-zeros (suc c) k (x ∷ ws) = rw (plane-zeros c k ws) (ap (λ (y : ℕ). y ∷ ws) (omega arith))
+
+pub add-zeros : (n k c : ℕ) (ws : List ℕ) → addAt n k (numberBits c 0) ws ≡ ws
+unfolding addAt
+add-zeros n k c ws = rw (plane-zeros c k (drop n ws)) (take-append-drop n ws)
 
 -- some bits, and more after them
 pub add-append : (n k : ℕ) (bs cs : List Bool) (ws : List ℕ) → n + length bs ≤ length ws
@@ -46,10 +46,13 @@ add-append n k (b ∷ bs) cs ws h =
     rw (e, add-cons n k b bs ws (omega arith), add-cons n k b (bs ++ cs) ws (omega arith))
     (add-append (n + 1) k bs cs (set ws n x) (omega arith))
 
--- ---- room for a one
+-- ---- room for the planes to come, and for a one
+
+pub room-first : (w m n : ℕ) (ws : List ℕ) → n < length ws → Room w m (drop n ws) → getD ws n 0 + 2 ^ m ≤ 2 ^ w
+room-first w m n ws h r = let r' = rw (drop-cons ws n 0 h) at r in r' .0
 
 pub room-here : (w k n : ℕ) (ws : List ℕ) → n < length ws → Room w (suc k) (drop n ws) → getD ws n 0 + 2 ^ k < 2 ^ w
-room-here w k n ws h r = let r' = rw (drop-cons ws n 0 h) at r in omega (arith, r' .0, pow-suc 2 k, pow-pos k)
+room-here w k n ws h r = omega (arith, room-first w (suc k) n ws h r, pow-suc 2 k, pow-pos k)
 
 room-next : (w m n : ℕ) (ws : List ℕ) → n < length ws → Room w m (drop n ws) → Room w m (drop (n + 1) ws)
 room-next w m n ws h r = let r' = rw (drop-cons ws n 0 h) at r in rw add-one (r' .1)

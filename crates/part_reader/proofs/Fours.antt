@@ -43,7 +43,7 @@ four-fit a c k h room =
     omega (arith, pow-add 2 k 4, pow-pos k)
 
 -- the four bits of a word, one by one
-column-parts : (a k p q r t : ℕ) → a + (p * 8 + q * 4 + r * 2 + t) * 2 ^ k ≡ a + p * 2 ^ (k + 3) + q * 2 ^ (k + 2) + r * 2 ^ (k + 1) + t * 2 ^ (k + 0)
+pub column-parts : (a k p q r t : ℕ) → a + (p * 8 + q * 4 + r * 2 + t) * 2 ^ k ≡ a + p * 2 ^ (k + 3) + q * 2 ^ (k + 2) + r * 2 ^ (k + 1) + t * 2 ^ (k + 0)
 column-parts a k p q r t = rw (pow-add 2 k 3, pow-add 2 k 2, pow-add 2 k 1, add-zero) (omega arith)
 
 column-word : (a k x : ℕ)

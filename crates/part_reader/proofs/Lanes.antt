@@ -7,13 +7,14 @@ use native.Mathlib.Nat.{add-zero, zero-add, suc-add, mul-one, mul-assoc, div-div
 use native.Mathlib.Numerals.{add-one}
 use native.Mathlib.Omega.{arith}
 use lib.ListN.{length, getD, set, take, drop}
-use lib.Pow.{pow-add, shr-shr, shl-shr, high}
+use lib.Pow.{pow-add, high}
 use lib.Seq.{take-suc-set, drop-cons, drop-set-lt, append-snoc}
 use Rattle.bits.specs.Stream.{bit, digit, numberBits, numberOf}
-use Rattle.bits.proofs.NumberLaws.{digit-odd, digit-lt, numberBits-mod, numberBits-take, numberBits-low}
+use Rattle.bits.proofs.NumberLaws.{digit-odd, digit-lt, numberBits-take, numberBits-low}
 use Rattle.planes.specs.Reader.{addPlane}
-use Rattle.planes.specs.Calls.{Room}
 use Rattle.part_reader.specs.Calls.{addLanes, lane}
+use Rattle.part_reader.proofs.Adding.{plane-zeros}
+use Rattle.part_reader.proofs.Fours.{column-parts}
 
 -- ---- the four bits of a word
 
@@ -40,7 +41,10 @@ addEach (suc c) k v (x ∷ ws) = (x + lane v * 2 ^ k) ∷ addEach c k (v / 2) ws
 
 -- the four bits of a word, one by one
 lane-parts : (a k p q r t : ℕ) → a + (p * 8 + q * 4 + r * 2 + t) * 2 ^ k ≡ a + p * 2 ^ (k + 1 + 1 + 1) + q * 2 ^ (k + 1 + 1) + r * 2 ^ (k + 1) + t * 2 ^ k
-lane-parts a k p q r t = rw (pow-add 2 (k + 1 + 1) 1, pow-add 2 (k + 1) 1, pow-add 2 k 1) (omega arith)
+lane-parts a k p q r t =
+    let two : k + 1 + 1 ≡ k + 2 = omega arith in
+    let three : k + 2 + 1 ≡ k + 3 = omega arith in
+    rw (two, three) (rw add-zero at (column-parts a k p q r t))
 
 pub each-lanes : (c k v : ℕ) (ws : List ℕ) → addEach c k v ws ≡ addLanes 4 c k v ws
 each-lanes zero k v ws = refl
@@ -58,20 +62,11 @@ each-next n k c v ws h =
     rw (add-one, drop-cons ws n 0 h, take-suc-set ws n x h, drop-set-lt (suc n) ws n x (omega arith))
     (sym (append-snoc (take n ws) x (addEach c k (v / 2) (drop (suc n) ws))))
 
-pub room-first : (w m n : ℕ) (ws : List ℕ) → n < length ws → Room w m (drop n ws) → getD ws n 0 + 2 ^ m ≤ 2 ^ w
-room-first w m n ws h r = let r′ = rw (drop-cons ws n 0 h) at r in r′ .0
-
 -- ---- plane by plane
-
--- no ones add nothing
-pub add-zero-plane : (c k : ℕ) (ws : List ℕ) → addPlane k (numberBits c 0) ws ≡ ws
-add-zero-plane zero k ws = refl
-add-zero-plane (suc c) k [] = refl
-add-zero-plane (suc c) k (x ∷ ws) = rw (add-zero-plane c k ws) (ap (λ (y : ℕ). y ∷ ws) (omega arith))
 
 -- the bits of a plane's number are its bits, and zeros after them
 pub add-number : (c k : ℕ) (bs : List Bool) (ws : List ℕ) → length bs ≤ c → addPlane k (numberBits c (numberOf bs)) ws ≡ addPlane k bs ws
-add-number c k [] ws h = add-zero-plane c k ws
+add-number c k [] ws h = plane-zeros c k ws
 add-number zero k (b ∷ bs) ws h = absurd (omega arith)
 add-number (suc c) k (true ∷ bs) [] h = refl
 add-number (suc c) k (false ∷ bs) [] h = refl
@@ -96,15 +91,15 @@ pub lanes-more : (m c k v x : ℕ) (ws : List ℕ) → c ≤ 16 → x < 2 ^ 16
     → addLanes (suc m) c k (v * 2 ^ 16 + x) ws ≡ addPlane k (numberBits c x) (addLanes m c (k + 1) v ws)
 lanes-more m c k v x ws h l = rw (bits-within c v x h, high v 16 l)
 
--- planes with no one below the others
 sixteen-more : (v i : ℕ) → v * 2 ^ (16 * suc i) ≡ v * 2 ^ (16 * i) * 2 ^ 16 + 0
 sixteen-more v i =
     let e : 16 * suc i ≡ 16 * i + 16 = omega arith in
     rw (e, pow-add 2 (16 * i) 16, add-zero) (sym (mul-assoc v (2 ^ (16 * i)) (2 ^ 16)))
 
+-- planes with no one below the others
 pub lanes-up : (i m c k v : ℕ) (ws : List ℕ) → c ≤ 16 → addLanes (i + m) c k (v * 2 ^ (16 * i)) ws ≡ addLanes m c (k + i) v ws
 lanes-up zero m c k v ws h = rw (zero-add, add-zero, mul-one)
 lanes-up (suc i) m c k v ws h =
-    let f : k + suc i ≡ k + 1 + i = omega arith in
-    rw (suc-add, sixteen-more v i, f)
-    (lanes-more (i + m) c k (v * 2 ^ (16 * i)) 0 ws h (omega arith) ∙ add-zero-plane c k _ ∙ lanes-up i m c (k + 1) v ws h)
+    let top : k + suc i ≡ k + 1 + i = omega arith in
+    rw (suc-add, sixteen-more v i, top)
+    (lanes-more (i + m) c k (v * 2 ^ (16 * i)) 0 ws h (omega arith) ∙ plane-zeros c k _ ∙ lanes-up i m c (k + 1) v ws h)

@@ -24,7 +24,7 @@ returns : tie.Need-returns Inv-loop μ-loop
 returns c =
     let s = c .before .before in
     let a = s .args in
-    rw (c .if1 .taken) (sym (add-zeros (a .i) (a .k) (a .count) (a .words .now) (s .pre .1)))
+    rw (c .if1 .taken) (sym (add-zeros (a .i) (a .k) (a .count) (a .words .now)))
 
 loop-holds : tie.Need-loop-holds Inv-loop μ-loop
 loop-holds c =

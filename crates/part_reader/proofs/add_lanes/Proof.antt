@@ -1,6 +1,6 @@
 -- The invariant: the lanes that are left, added from here, give what all of them give. Assumes nothing.
-use Rattle.part_reader.proofs.Adding.{room-set}
-use Rattle.part_reader.proofs.Lanes.{addEach, each-lanes, each-next, room-first, lane-lt}
+use Rattle.part_reader.proofs.Adding.{room-first, room-set}
+use Rattle.part_reader.proofs.Lanes.{addEach, each-lanes, each-next, lane-lt}
 use Rattle.planes.specs.Calls.{Room}
 use lib.ListN.{length, take, drop, take-append-drop}
 use lib.Pow.{shr-shr}
