@@ -64,22 +64,22 @@ add-v : tie.Need-add-v Inv-loop μ-loop
 add-v c = record { fits = fits (c .before .before) }
 
 add-j : tie.Need-add-j Inv-loop μ-loop
-add-j c = search needs
+add-j c = omega arith
 
 sub-add-lanes : tie.Need-sub-add-lanes Inv-loop μ-loop
-sub-add-lanes c = search needs
+sub-add-lanes c = omega arith
 
 mul-add-lanes : tie.Need-mul-add-lanes Inv-loop μ-loop
-mul-add-lanes c = search needs
+mul-add-lanes c = omega arith
 
 sub-add-lanes-2 : tie.Need-sub-add-lanes-2 Inv-loop μ-loop
-sub-add-lanes-2 c = search needs
+sub-add-lanes-2 c = omega arith
 
 cast-add-lanes : tie.Need-cast-add-lanes Inv-loop μ-loop
-cast-add-lanes c = search needs
+cast-add-lanes c = omega arith
 
 shl-add-lanes : tie.Need-shl-add-lanes Inv-loop μ-loop
-shl-add-lanes c = search needs
+shl-add-lanes c = omega arith
 
 add-lanes-requires : tie.Need-add-lanes-requires Inv-loop μ-loop
 add-lanes-requires c κs =
@@ -90,7 +90,7 @@ add-lanes-requires c κs =
     (room at .0, rw (at .loop .inv .1) few, omega arith, room at .1)
 
 sub-t18 : tie.Need-sub-t18 Inv-loop μ-loop
-sub-t18 c = search needs
+sub-t18 c = omega arith
 
 same-length : tie.Need-same-length Inv-loop μ-loop
 same-length c =
@@ -108,7 +108,7 @@ returns c =
     (not-true _ (call .before .before .if1 .taken)) (rw (l .inv .1) at (call .add-lanes .ensures))
 
 loop-less : tie.Need-loop-less Inv-loop μ-loop
-loop-less c = search needs
+loop-less c = omega arith
 
 loop-again : tie.Need-loop-again Inv-loop μ-loop
 loop-again c =
@@ -119,7 +119,7 @@ loop-again c =
     (omega arith, l .inv .1, number .holds, gathered-more _ (l .inv .3) number (s .pre .3) (s .pre .0) (read .before .loop-test .taken) (not-false _ (c .if1 .left)))
 
 sub-add-lanes-3 : tie.Need-sub-add-lanes-3 Inv-loop μ-loop
-sub-add-lanes-3 c = search needs
+sub-add-lanes-3 c = omega arith
 
 add-lanes-requires-2 : tie.Need-add-lanes-requires-2 Inv-loop μ-loop
 add-lanes-requires-2 c κs =
@@ -129,10 +129,10 @@ add-lanes-requires-2 c κs =
     (room at .0, rw (at .loop .inv .1) few, omega arith, room at .1)
 
 sub-t26 : tie.Need-sub-t26 Inv-loop μ-loop
-sub-t26 c = search needs
+sub-t26 c = omega arith
 
 same-length-2 : tie.Need-same-length-2 Inv-loop μ-loop
-same-length-2 c = search needs
+same-length-2 c = c .before .before .add-lanes2 .kept .0 ∙ ap length (c .before .before .before .before .before .loop .inv .1)
 
 returns-2 : tie.Need-returns-2 Inv-loop μ-loop
 returns-2 c =
