@@ -15,26 +15,23 @@ use Rattle.planes.specs.Reader.{readPlane, addPlane}
 use Rattle.planes.specs.Calls.{Room}
 use Rattle.part_reader.specs.Calls.{addLanes}
 use Rattle.part_reader.proofs.Lanes.{add-number, lanes-more, lanes-up}
-use Rattle.plane_reader.specs.Calls.{NumberRead, PlaneRead, Whole, SomeRead}
+use Rattle.plane_reader.specs.Calls.{NumberRead, PlaneRead, Whole, CutRead, SomeRead, GroupRead}
 use Rattle.plane_reader.proofs.Short.{number-next, number-bits, number-lt}
 use Rattle.plane_reader.proofs.Runs.{whole-none, whole-more, whole-plane}
 
--- j whole planes from plane k - 1 downward are in v and not yet in the words: added to these, in however many of the places from m on, they give `sum`
-pub record Gathered (ws : List ℕ) (k n : ℕ) (s : List Bool) (j v m : ℕ) (s′ : List Bool) : Type 0 where
-  pub sum : List ℕ
+-- j whole planes are in v: added to N words, in the m places that they pass or in more, they are read
+pub record Gathered (N n : ℕ) (s : List Bool) (j v m : ℕ) (s′ : List Bool) : Type 0 where
   pub few : v < 2 ^ (16 * j)
-  pub within : m ≤ length ws
-  pub lanes : (c : ℕ) → m ≤ c → c ≤ 16 → addLanes j c (k - j) v ws ≡ sum
-  pub whole : (base : ℕ) → base + 4 ≤ k → Whole base ws k n s sum (k - j) m s′
+  pub within : m ≤ N
+  pub whole : (base k c : ℕ) (ws : List ℕ) → length ws ≡ N → base + 4 ≤ k → Room 64 k ws → m ≤ c → c ≤ 16
+      → Whole base ws k n s (addLanes j c (k - j) v ws) (k - j) m s′
 
-pub gathered-none : (ws : List ℕ) (k n : ℕ) (s : List Bool) → n ≤ length ws → Room 64 k ws → Gathered ws k n s 0 0 n s
-gathered-none ws k n s h room =
+pub gathered-none : (N n : ℕ) (s : List Bool) → n ≤ N → Gathered N n s 0 0 n s
+gathered-none N n s h =
     record {
-      sum = ws;
       few = omega arith;
       within = h;
-      lanes = λ c l u. refl;
-      whole = λ base l. rw (sub-zero k) (whole-none base k n ws s (omega arith) h room);
+      whole = λ base k c ws l b room u t. rw (sub-zero k) (whole-none base k n ws s (omega arith) (omega arith) room);
     }
 
 -- sixteen bits more
@@ -44,15 +41,12 @@ few-more v x j h l =
     rw (e, pow-add 2 (16 * j) 16) (omega arith)
 
 -- one plane more
-module _ {ws : List ℕ} {k n : ℕ} {s : List Bool} {j v m : ℕ} {d : List Bool} {end : ℕ} {w : Window} {m′ : ℕ} {whole′ : Bool} {x : ℕ} (p : ℕ)
-    (g : Gathered ws k n s j v m (slice p end d)) (r : NumberRead (length ws) m d p end w m′ whole′ x) (short : length ws ≤ 16) (four : 4 ≤ k) (h : j < 4) where
+module _ {N n : ℕ} {s : List Bool} {j v m : ℕ} {d : List Bool} {end : ℕ} {w : Window} {m′ : ℕ} {whole′ : Bool} {x : ℕ} (p : ℕ)
+    (g : Gathered N n s j v m (slice p end d)) (r : NumberRead N m d p end w m′ whole′ x) (short : N ≤ 16) (h : j < 4) where
   abbrev bits : List Bool
-  bits = readPlane (length ws) m (slice p end d) .bits
+  bits = readPlane N m (slice p end d) .bits
 
-  abbrev sum′ : List ℕ
-  sum′ = addPlane (k - j - 1) bits (g .sum)
-
-  pub next : (m ≤ m′) × (m′ ≤ length ws)
+  next : (m ≤ m′) × (m′ ≤ N)
   next = number-next r (g .within)
 
   number-fits : x < 2 ^ 16
@@ -64,68 +58,92 @@ module _ {ws : List ℕ} {k n : ℕ} {s : List Bool} {j v m : ℕ} {d : List Boo
   pub more-fits : v * 65536 + x < 2 ^ 64
   more-fits = lt-of-lt-of-le more-few (pow-mono {j = 64} (omega arith))
 
-  down : k - (j + 1) ≡ k - j - 1
-  down = omega arith
+  module _ (base k c : ℕ) (ws : List ℕ) (l : length ws ≡ N) (b : base + 4 ≤ k) (room : Room 64 k ws) (u : m′ ≤ c) (t : c ≤ 16) where
+    abbrev sum : List ℕ
+    sum = addLanes j c (k - j) v ws
 
-  more-lanes : (c : ℕ) → m′ ≤ c → c ≤ 16 → addLanes (j + 1) c (k - (j + 1)) (v * 65536 + x) ws ≡ sum′
-  more-lanes c l u =
-      let f : k - j - 1 + 1 ≡ k - j = omega arith in
-      rw (down, add-one, lanes-more j c (k - j - 1) v x ws u number-fits, f, g .lanes c (omega (arith, next .0)) u)
-      (rw (r .number) (add-number c (k - j - 1) bits (g .sum) (omega (arith, number-bits r (g .within)))))
+    before : Whole base ws k n s sum (k - j) m (slice p end d)
+    before = g .whole base k c ws l b room (omega (arith, next .0)) t
 
-  plane : (base : ℕ) → base + 4 ≤ k → PlaneRead (g .sum) sum′ (k - j - 1) m d p end w m′ whole′
-  plane base b =
-      let l = g .whole base b .long in
-      record { words = rw l; moved = rw l (r .moved); holds = r .holds; left = rw l (r .left); whole = rw l (r .whole) }
+    down : k - (j + 1) ≡ k - j - 1
+    down = omega arith
 
-  pub gathered-more : whole′ ≡ true → Gathered ws k n s (j + 1) (v * 65536 + x) m′ (slice (place w) end d)
-  gathered-more t =
-      record {
-        sum = sum′;
-        few = more-few;
-        within = next .1;
-        lanes = more-lanes;
-        whole = λ base b. rw down (whole-more (g .whole base b)
-            (whole-plane base (k - j) m p end (omega arith) (rw (g .whole base b .long) (g .within)) (g .whole base b .room) (plane base b) t));
-      }
+    more-lanes : addLanes (j + 1) c (k - (j + 1)) (v * 65536 + x) ws ≡ addPlane (k - j - 1) bits sum
+    more-lanes =
+        let up : k - j - 1 + 1 ≡ k - j = omega arith in
+        rw (down, add-one, lanes-more j c (k - j - 1) v x ws t number-fits, up, r .number)
+        (add-number c (k - j - 1) bits sum (omega (arith, number-bits r (g .within))))
 
-  -- the budget cuts it
-  pub gathered-cut : {ws′ : List ℕ} (at base : ℕ) → s ≡ slice at end d → base + 4 ≤ k → whole′ ≡ false
-      → ws′ ≡ addLanes 4 m′ (k - 4) ((v * 65536 + x) * 2 ^ (64 - 16 * (j + 1)) % 2 ^ 64) ws
-      → SomeRead base ws ws′ k n d at end w m′ (k - (j + 1)) false
-  gathered-cut at base e b f u =
-      let all : 3 - j + (j + 1) ≡ 4 = omega arith in
-      let up : 16 * (3 - j) ≡ 64 - 16 * (j + 1) = omega arith in
-      let top : k - 4 + (3 - j) ≡ k - (j + 1) = omega arith in
-      let exact = shl-exact (16 * (j + 1)) (64 - 16 * (j + 1)) 64 more-few (omega arith) in
-      let added = (rw exact at u) ∙ (rw (all, up, top) at (lanes-up (3 - j) (j + 1) m′ (k - 4) (v * 65536 + x) ws (omega (arith, next .1))))
-      ∙ more-lanes m′ (omega arith) (omega (arith, next .1)) in
-      let last = rw f at (plane base b) in
-      record {
-        holds = r .holds;
-        less = omega arith;
-        whole = λ q. absurd (true≢false (sym q));
-        cut = λ q. record {
-          words₁ = g .sum;
+    more-plane : PlaneRead sum (addLanes (j + 1) c (k - (j + 1)) (v * 65536 + x) ws) (k - j - 1) m d p end w m′ whole′
+    more-plane =
+        let e : length sum ≡ N = before .long ∙ l in
+        record { words = rw e more-lanes; moved = rw e (r .moved); holds = r .holds; left = rw e (r .left); whole = rw e (r .whole) }
+
+    more-whole : whole′ ≡ true → Whole base ws k n s (addLanes (j + 1) c (k - (j + 1)) (v * 65536 + x) ws) (k - (j + 1)) m′ (slice (place w) end d)
+    more-whole q =
+        rw down (whole-more before
+        (whole-plane base (k - j) m p end (omega arith) (rw (before .long) (before .within)) (before .room) (rw down at more-plane) q))
+
+    more-cut : (at : ℕ) → s ≡ slice at end d → whole′ ≡ false
+        → CutRead base ws (addLanes (j + 1) c (k - (j + 1)) (v * 65536 + x) ws) k n d at end w m′ (k - (j + 1))
+    more-cut at e q =
+        record {
+          words₁ = sum;
           n₁ = m;
           at₁ = p;
           k₁ = k - j;
           last = down;
           some = omega arith;
-          whole = rw (← e) (g .whole base b);
-          plane = rw added last;
+          whole = rw (← e) before;
+          plane = rw q at more-plane;
+        }
+
+  pub gathered-more : whole′ ≡ true → Gathered N n s (j + 1) (v * 65536 + x) m′ (slice (place w) end d)
+  gathered-more q =
+      record { few = more-few; within = next .1; whole = λ base k c ws l b room u t. more-whole base k c ws l b room u t q }
+
+  -- the budget cuts it
+  pub gathered-cut : (at : ℕ) → s ≡ slice at end d → whole′ ≡ false → GroupRead N n d at end w m′ (v * 65536 + x) (j + 1) false
+  gathered-cut at e q =
+      record {
+        most = omega arith;
+        some = omega arith;
+        few = more-few;
+        within = next .1;
+        read = λ base k ws l b room. record {
+          holds = r .holds;
+          less = omega arith;
+          whole = λ f. absurd (true≢false (sym f));
+          cut = λ f. more-cut base k m′ ws l b room (omega arith) (omega (arith, next .1)) at e q;
         };
       }
 
 -- all four
-pub gathered-all : {ws ws′ : List ℕ} {k n j v m : ℕ} {d : List Bool} {end : ℕ} {w : Window} (at base : ℕ)
-    → Gathered ws k n (slice at end d) j v m (slice (place w) end d) → Holds d end w → length ws ≤ 16 → j ≡ 4 → base + 4 ≤ k
-    → ws′ ≡ addLanes 4 m (k - 4) v ws → SomeRead base ws ws′ k n d at end w m (k - 4) true
-gathered-all {ws} {m = m} at base g h short e b u =
-    let added = u ∙ (rw e at (g .lanes m (omega arith) (omega (arith, g .within)))) in
+pub gathered-all : {N n j v m : ℕ} {d : List Bool} {end : ℕ} {w : Window} (at : ℕ) → Gathered N n (slice at end d) j v m (slice (place w) end d)
+    → Holds d end w → N ≤ 16 → j ≡ 4 → GroupRead N n d at end w m v j true
+gathered-all {m = m} at g h short e =
     record {
-      holds = h;
-      less = omega arith;
-      whole = λ q. rw added (rw e at (g .whole base b));
-      cut = λ q. absurd (true≢false q);
+      most = omega arith;
+      some = omega arith;
+      few = g .few;
+      within = g .within;
+      read = λ base k ws l b room. record {
+        holds = h;
+        less = omega arith;
+        whole = λ f. g .whole base k m ws l b room (omega arith) (omega (arith, g .within));
+        cut = λ f. absurd (true≢false f);
+      };
     }
+
+-- added to the words, with those of four planes that were not read as 0
+pub some-group : {ws′ : List ℕ} {n : ℕ} {d : List Bool} {at end : ℕ} {w : Window} {n′ v j : ℕ} {whole′ : Bool} (base k : ℕ) (ws : List ℕ)
+    → GroupRead (length ws) n d at end w n′ v j whole′ → length ws ≤ 16 → base + 4 ≤ k → Room 64 k ws
+    → ws′ ≡ addLanes 4 n′ (k - 4) (v * 2 ^ (64 - 16 * j) % 2 ^ 64) ws → SomeRead base ws ws′ k n d at end w n′ (k - j) whole′
+some-group {n′ = n′} {v} {j} base k ws g short b room u =
+    let most = g .most in
+    let all : 4 - j + j ≡ 4 = omega arith in
+    let up : 16 * (4 - j) ≡ 64 - 16 * j = omega arith in
+    let top : k - 4 + (4 - j) ≡ k - j = omega arith in
+    let exact = shl-exact (16 * j) (64 - 16 * j) 64 (g .few) (omega arith) in
+    let added = rw (all, up, top) at (lanes-up (4 - j) j n′ (k - 4) v ws (omega (arith, g .within))) in
+    rw ((rw exact at u) ∙ added) (g .read base k ws refl b room)

@@ -2,7 +2,7 @@
 use mathlib.Core.Path.{_≡_}
 use mathlib.Core.Bool.{Bool, true, false}
 use mathlib.Core.List.{List, _++_}
-use Prim.Native.Nat.{ℕ, _+_, _-_, _≤_, _<_}
+use Prim.Native.Nat.{ℕ, _+_, _-_, _*_, _^_, _≤_, _<_}
 use lib.Dec.{leb, ltb}
 use lib.ListN.{length, take, drop, replicate}
 use lib.Seq.{slice}
@@ -11,7 +11,7 @@ use Rattle.bit_reader.specs.declared.Window.{Window}
 use Rattle.bit_reader.specs.Calls.{place, Holds, shorter}
 use Rattle.planes.specs.Reader.{Got, readPlane, readNext, addPlane, readFrom, readWords, wholeFrom, wholePlanes}
 use Rattle.planes.specs.Calls.{addAt, Room, restFrom, restPlanes}
-use Rattle.part_reader.specs.Calls.{Part}
+use Rattle.part_reader.specs.Calls.{Part, addLanes}
 
 -- what reading at n of plane k does: g's bits go into the words, and the window stands before g's rest
 pub record TestsRead (ws ws′ : List ℕ) (k n : ℕ) (d : List Bool) (end : ℕ) (g : Got) (w : Window) (n′ : ℕ) (whole′ : Bool) : Type 0 where
@@ -88,6 +88,15 @@ pub record SomeRead (base : ℕ) (ws ws′ : List ℕ) (k n : ℕ) (d : List Boo
   pub less : k′ < k
   pub whole : whole′ ≡ true → Whole base ws k n (slice at end d) ws′ k′ n′ (slice (place w) end d)
   pub cut : whole′ ≡ false → CutRead base ws ws′ k n d at end w n′ k′
+
+-- what reading j planes of N places at n as one number v does, from the place `at` of the stream d on: added to N words, they are some planes read
+pub record GroupRead (N n : ℕ) (d : List Bool) (at end : ℕ) (w : Window) (n′ v j : ℕ) (whole′ : Bool) : Type 0 where
+  pub most : j ≤ 4
+  pub some : 0 < j
+  pub few : v < 2 ^ (16 * j)
+  pub within : n′ ≤ N
+  pub read : (base k : ℕ) (ws : List ℕ) → length ws ≡ N → base + 4 ≤ k → Room 64 k ws
+      → SomeRead base ws (addLanes j n′ (k - j) v ws) k n d at end w n′ (k - j) whole′
 
 -- what reading p planes of N words of w bits does: where it stopped, and how many planes were whole
 pub record PlanesRead (w : ℕ) (ws′ : List ℕ) (N p : ℕ) (d : List Bool) (at end at′ whole′ : ℕ) : Type 0 where
