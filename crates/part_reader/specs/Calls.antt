@@ -1,12 +1,15 @@
 -- Tests and scans on a part of the places.
 use mathlib.Core.Path.{_≡_}
 use mathlib.Core.Bool.{Bool, true, false, cond}
-use mathlib.Core.List.{List, [], _∷_}
-use Prim.Native.Nat.{ℕ, zero, suc, _+_, _*_, _/_, _^_}
-use lib.Dec.{eqb}
+use mathlib.Core.List.{List, [], _∷_, _++_}
+use Prim.Native.Nat.{ℕ, zero, suc, _+_, _-_, _*_, _/_, _^_}
+use lib.Dec.{eqb, ltb}
 use lib.ListN.{length, take, drop}
+use lib.Seq.{slice}
 use Rattle.bits.specs.Stream.{bit, digit, numberBits, numberOf}
-use Rattle.planes.specs.Reader.{addPlane}
+use Rattle.bit_reader.specs.declared.Window.{Window}
+use Rattle.bit_reader.specs.Calls.{place, Holds, shorter}
+use Rattle.planes.specs.Reader.{readPlane, readNext, addPlane}
 
 -- what reading a part gives: the bits of the places passed, the bits left, and the stage that follows:
 -- 0 a test, 1 the rest of a scan, 2 nothing, as the plane is done, 3 nothing, as the budget cuts it
@@ -64,7 +67,24 @@ addPlanes N (suc m) k s ws = addPlanes N m k (drop N s) (addPlane (k + m) (take 
 abbrev pub column : ℕ → ℕ
 column x = digit (bit 0 x) * 8 + digit (bit 4 x) * 4 + digit (bit 8 x) * 2 + digit (bit 12 x)
 
--- ---- planes of at most 16 places, as one number
+-- ---- planes of at most 16 places, as numbers
+
+-- what reading a plane at n through the window w alone does: x has its n first bits and those of p, the part of all the places after them
+pub record ShortRead (n : ℕ) (w : Window) (p : Part) (w′ : Window) (n′ : ℕ) (whole′ : Bool) (x : ℕ) : Type 0 where
+  pub number : x ≡ numberOf (numberBits n (w .bits) ++ p .bits)
+  pub moved : n′ ≡ n + length (p .bits)
+  pub window : w′ ≡ shorter w (w .count - length (p .rest))
+  pub whole : whole′ ≡ ltb (p .stage) 3
+
+-- what reading a plane of N places at n as a number does, from the place `at` of the stream d on
+pub record NumberRead (N n : ℕ) (d : List Bool) (at end : ℕ) (w : Window) (n′ : ℕ) (whole′ : Bool) (x : ℕ) : Type 0 where
+  pub number : x ≡ numberOf (readPlane N n (slice at end d) .bits)
+  pub moved : n′ ≡ readNext N n (slice at end d)
+  pub holds : Holds d end w
+  pub left : slice (place w) end d ≡ readPlane N n (slice at end d) .rest
+  pub whole : whole′ ≡ readPlane N n (slice at end d) .whole
+
+-- ---- several of them, as one number
 
 -- the words with m planes of N places added, from plane k + m - 1 down to plane k: v has 16 bits for each, those of plane k lowest
 abbrev pub addLanes : ℕ → ℕ → ℕ → ℕ → List ℕ → List ℕ

@@ -1,10 +1,12 @@
-// Parts of a plane, read as numbers: the tests and scans of at most 16 places, and the bits that they find, added to the words.
+// Parts of a plane, and planes of at most 16 places, read as numbers, and their bits, added to the words.
 ghost use mathlib.Core.Path.{_≡_};
-ghost use Prim.Native.Nat.{suc, _+_, _*_, _/_, _^_, _≤_, _<_};
+ghost use Prim.Native.Nat.{suc, _+_, _-_, _*_, _/_, _^_, _≤_, _<_};
 ghost use lib.ListN.{length, drop, getD, set};
-ghost use Rattle.bits.specs.Stream.{digit, numberBits};
+ghost use Rattle.bits.specs.Stream.{digit, numberBits, bitsOf};
+ghost use Rattle.bit_reader.specs.Calls.{place, Holds};
 ghost use Rattle.planes.specs.Calls.{addAt, Room};
-ghost use Rattle.part_reader.specs.Calls.{partTest, partScan, partStage, PartRead, addPlanes, column, addLanes, lane};
+ghost use Rattle.part_reader.specs.Calls.{partTest, partScan, partStage, PartRead, addPlanes, column, addLanes, lane, ShortRead, NumberRead};
+use bit_reader::Window;
 
 // What comes next in a plane: a test, the rest of a scan, or nothing, as the plane is done or the budget cuts it.
 pub const TEST: u32 = 0;
@@ -13,9 +15,9 @@ pub const SCAN: u32 = 1;
 
 pub const DONE: u32 = 2;
 
-pub const CUT: u32 = 3;
+const CUT: u32 = 3;
 
-pub fn plane_weight(k: u32) -> u64
+fn plane_weight(k: u32) -> u64
     requires { ⌜ k < 64 ⌝ }
     ensures { λ r. ⌜ r ≡ 2 ^ k ⌝ }
 {
@@ -46,7 +48,7 @@ fn add_bit(words: &mut [u64], k: u32, i: usize, b: bool)
 
 // The test at place `from` of a part, with m places left, in the `have` bits of s: a 0, or the end of the bits, ends the plane; a 1 is followed by a scan.
 // The ones found are added to x, and `to` is the place after the last one passed. The result is how many bits are left.
-pub fn read_test(
+fn read_test(
     s: u64,
     have: u32,
     m: u32,
@@ -135,6 +137,60 @@ pub fn read_part(
         read_test(s, have, m, known, 0, x, to, stage)
     } else {
         read_scan(s, have, m, known, 0, x, to, stage)
+    }
+}
+
+// A plane as a number: the window after it, the n that it hands on, whether the budget did not cut it, and its bits, lowest first.
+pub struct Number {
+    pub w: Window,
+    pub n: usize,
+    pub whole: bool,
+    pub x: u64,
+}
+
+// The number of a plane of at most 16 places, whose n first bits the window has.
+fn short_number(w: Window, places: usize, n: usize) -> Number
+    requires { ⌜ (n ≤ places) × (places ≤ 16) × (n ≤ w .count) × (w .count < 64) ⌝ }
+    ensures { λ r. ⌜ ShortRead n w (partTest (numberBits (w .count - n) (w .bits / 2 ^ n)) (places - n) 1) (r .w) (r .n) (r .whole) (r .x) ⌝ }
+{
+    let have = w.count;
+    let first = n as u32;
+    let m = (places - n) as u32;
+    let mut x = w.bits % plane_weight(first);
+    let mut to: u32 = 0;
+    let mut stage = TEST;
+    let rest = read_test(
+        w.bits >> first,
+        have - first,
+        m,
+        1,
+        first,
+        &mut x,
+        &mut to,
+        &mut stage,
+    );
+    Number {
+        w: bit_reader::taken(w, have - rest),
+        n: to as usize,
+        whole: stage < CUT,
+        x,
+    }
+}
+
+// The number of a plane of at most 16 places; where the budget cuts its n first bits, the bits that there are.
+pub fn read_number(buf: &[u8], w: Window, end: usize, places: usize, n: usize) -> Number
+    requires { ⌜ (n ≤ places) × (places ≤ 16) × (end ≤ 8 * length (now buf)) × Holds (bitsOf (now buf)) end w × (end < 2 ^ 32) ⌝ }
+    ensures { λ r. ⌜ NumberRead places n (bitsOf (now (buf .entry))) (place w) end (r .w) (r .n) (r .whole) (r .x) ⌝ }
+{
+    let next = bit_reader::refill(buf, w, end);
+    if n as u32 <= next.count {
+        return short_number(next, places, n);
+    }
+    Number {
+        w: bit_reader::taken(next, next.count),
+        n,
+        whole: false,
+        x: next.bits,
     }
 }
 

@@ -13,10 +13,10 @@ use Rattle.bit_reader.specs.declared.Window.{Window}
 use Rattle.bit_reader.specs.Calls.{place, Holds}
 use Rattle.planes.specs.Reader.{readPlane, addPlane}
 use Rattle.planes.specs.Calls.{Room}
-use Rattle.part_reader.specs.Calls.{addLanes}
+use Rattle.part_reader.specs.Calls.{NumberRead, addLanes}
 use Rattle.part_reader.proofs.Lanes.{add-number, lanes-more, lanes-up}
-use Rattle.plane_reader.specs.Calls.{NumberRead, PlaneRead, Whole, CutRead, SomeRead, GroupRead}
-use Rattle.plane_reader.proofs.Short.{number-next, number-bits, number-lt}
+use Rattle.part_reader.proofs.Short.{number-next, number-bits, number-lt}
+use Rattle.plane_reader.specs.Calls.{PlaneRead, Whole, CutRead, SomeRead, GroupRead}
 use Rattle.plane_reader.proofs.Runs.{whole-none, whole-more, whole-plane}
 
 -- j whole planes are in v: added to N words, in the m places that they pass or in more, they are read

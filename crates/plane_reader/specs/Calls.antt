@@ -1,17 +1,17 @@
 -- What the reader's steps do.
 use mathlib.Core.Path.{_≡_}
 use mathlib.Core.Bool.{Bool, true, false}
-use mathlib.Core.List.{List, _++_}
+use mathlib.Core.List.{List}
 use Prim.Native.Nat.{ℕ, _+_, _-_, _*_, _^_, _≤_, _<_}
-use lib.Dec.{leb, ltb}
+use lib.Dec.{leb}
 use lib.ListN.{length, take, drop, replicate}
 use lib.Seq.{slice}
-use Rattle.bits.specs.Stream.{numberBits, numberOf}
+use Rattle.bits.specs.Stream.{numberBits}
 use Rattle.bit_reader.specs.declared.Window.{Window}
-use Rattle.bit_reader.specs.Calls.{place, Holds, shorter}
+use Rattle.bit_reader.specs.Calls.{place, Holds}
 use Rattle.planes.specs.Reader.{Got, readPlane, readNext, addPlane, readFrom, readWords, wholeFrom, wholePlanes}
 use Rattle.planes.specs.Calls.{addAt, Room, restFrom, restPlanes}
-use Rattle.part_reader.specs.Calls.{Part, addLanes}
+use Rattle.part_reader.specs.Calls.{addLanes}
 
 -- what reading at n of plane k does: g's bits go into the words, and the window stands before g's rest
 pub record TestsRead (ws ws′ : List ℕ) (k n : ℕ) (d : List Bool) (end : ℕ) (g : Got) (w : Window) (n′ : ℕ) (whole′ : Bool) : Type 0 where
@@ -28,21 +28,6 @@ pub record FirstRead (ws ws′ : List ℕ) (k n : ℕ) (d : List Bool) (end : �
   pub holds : Holds d end w
   pub left : slice (place w) end d ≡ drop n s
   pub whole : whole′ ≡ leb n (length s)
-
--- what reading a plane at n through the window w alone does: x has its n first bits and those of p, the part of all the places after them
-pub record ShortRead (n : ℕ) (w : Window) (p : Part) (w′ : Window) (n′ : ℕ) (whole′ : Bool) (x : ℕ) : Type 0 where
-  pub number : x ≡ numberOf (numberBits n (w .bits) ++ p .bits)
-  pub moved : n′ ≡ n + length (p .bits)
-  pub window : w′ ≡ shorter w (w .count - length (p .rest))
-  pub whole : whole′ ≡ ltb (p .stage) 3
-
--- what reading a plane of N places at n as a number does, from the place `at` of the stream d on
-pub record NumberRead (N n : ℕ) (d : List Bool) (at end : ℕ) (w : Window) (n′ : ℕ) (whole′ : Bool) (x : ℕ) : Type 0 where
-  pub number : x ≡ numberOf (readPlane N n (slice at end d) .bits)
-  pub moved : n′ ≡ readNext N n (slice at end d)
-  pub holds : Holds d end w
-  pub left : slice (place w) end d ≡ readPlane N n (slice at end d) .rest
-  pub whole : whole′ ≡ readPlane N n (slice at end d) .whole
 
 -- what reading plane k at n does, from the place `at` of the stream d on
 pub record PlaneRead (ws ws′ : List ℕ) (k n : ℕ) (d : List Bool) (at end : ℕ) (w : Window) (n′ : ℕ) (whole′ : Bool) : Type 0 where

@@ -53,11 +53,12 @@ loop-again c =
     let l = turn .before .before .before .loop in
     let a = turn .before .before .before .before .before .args in
     let few : l .i < length (l .words) = omega arith in
-    let e : a .count - l .i ≡ suc (a .count - (l .i + 1)) = omega arith in (
+    let e : a .count - l .i ≡ suc (a .count - (l .i + 1)) = omega arith in
+    let next = each-next (l .i) (a .k) (a .count - (l .i + 1)) (a .v / 2 ^ l .i) (l .words) few in (
       search needs,
       call .add-digits .kept .0 ∙ l .inv .1,
       rw (call .add-digits .ensures) (room-set 64 (a .k + 4) (l .i) _ (l .words) few (l .inv .2)),
-      rw (call .add-digits .ensures, turn .laned .ensures, ← (shr-shr (a .v) (l .i) 1)) (sym (each-next (l .i) (a .k) (a .count - (l .i + 1)) (a .v / 2 ^ l .i) (l .words) few) ∙ (rw e at (l .inv .3))),
+      rw (call .add-digits .ensures, turn .laned .ensures, ← (shr-shr (a .v) (l .i) 1)) (sym next ∙ (rw e at (l .inv .3))),
     )
 
 same-length : tie.Need-same-length Inv-loop μ-loop

@@ -1,5 +1,6 @@
 -- The number of the plane is added to the words. Assumes nothing.
-use Rattle.plane_reader.proofs.Short.{number-next, number-plane}
+use Rattle.plane_reader.proofs.Reading.{number-plane}
+use Rattle.part_reader.proofs.Short.{number-next}
 use Rattle.bit_reader.specs.Calls.{place}
 use native.Mathlib.Omega.{arith}
 use borrow.Author.Needs.{needs}

@@ -5,9 +5,9 @@ use mathlib.Core.List.{List, [], _++_, append-nil}
 use Prim.Native.Nat.{ℕ, zero, suc, _+_, _-_, _*_, _/_, _%_, _^_, _≤_, _<_}
 use native.Mathlib.Nat.{add-zero, lt-of-lt-of-le}
 use native.Mathlib.Omega.{arith}
-use borrow.Author.Tests.{le-leb, lt-leb, le-ltb}
+use borrow.Author.Tests.{le-leb, lt-leb, le-ltb, leb-false}
 use lib.Dec.{leb, ltb}
-use lib.ListN.{length, take, drop, length-append, length-take}
+use lib.ListN.{length, take, drop, length-append, length-take, drop-of-length-le}
 use lib.Pow.{pow-mono}
 use lib.Seq.{slice, length-slice, drop-append-le, take-all}
 use Rattle.bits.specs.Stream.{numberBits, numberOf}
@@ -17,13 +17,9 @@ use Rattle.bit_reader.specs.declared.Window.{Window}
 use Rattle.bit_reader.specs.Calls.{place, Filled, Taken, shorter}
 use Rattle.bit_reader.proofs.Windows.{shorter-holds, unread, next-bits}
 use Rattle.planes.specs.Reader.{readTest, readPlane, readNext}
-use Rattle.planes.specs.Calls.{addAt}
 use Rattle.planes.proofs.Range.{next-le}
-use Rattle.part_reader.specs.Calls.{Part, partTest, PartRead}
-use Rattle.plane_reader.specs.Calls.{ShortRead, NumberRead, PlaneRead}
-use Rattle.part_reader.proofs.Lanes.{add-number}
+use Rattle.part_reader.specs.Calls.{Part, partTest, PartRead, ShortRead, NumberRead}
 use Rattle.part_reader.proofs.Stages.{readStage, pushAll, ended, stage-last, Follows, test-follows, Takes, stage-takes}
-use Rattle.plane_reader.proofs.Reading.{test-nothing, none-left}
 
 -- the n first bits and a part after them make one number
 pub short-read : {p : Part} {w w′ : Window} {x′ to stage left : ℕ} (n : ℕ) → PartRead p n (w .bits % 2 ^ n) x′ to stage left
@@ -111,7 +107,16 @@ module _ {d : List Bool} {end : ℕ} {w r : Window} (N n : ℕ) (long : end ≤ 
         whole = z .whole ∙ rw (got, enough);
       }
 
--- first bits that the budget cuts are all the bits that are left
+-- ---- first bits that the budget cuts are all the bits that are left
+
+-- a test of nothing gives nothing
+pub test-nothing : (r : ℕ) → (readTest [] r .bits ≡ []) × (readTest [] r .rest ≡ [])
+test-nothing zero = (refl, refl)
+test-nothing (suc r) = (refl, refl)
+
+pub none-left : (n : ℕ) (s : List Bool) → leb n (length s) ≡ false → drop n s ≡ []
+none-left n s e = let h = leb-false n (length s) e in drop-of-length-le s {i = n} (omega arith)
+
 module _ {d : List Bool} {end : ℕ} {w r : Window} (N n : ℕ) (long : end ≤ length d) (f : Filled d end w r) (few : n ≤ 16) (short : r .count < n) where
   last : r .at ≡ end
   last = full (λ h. omega (arith, f .full h))
@@ -150,16 +155,3 @@ module _ {N n : ℕ} {d : List Bool} {at end : ℕ} {w : Window} {n′ : ℕ} {w
 
   pub number-lt : x < 2 ^ n′
   number-lt = rw (r .number) (lt-of-lt-of-le (numberOf-lt (readPlane N n (slice at end d) .bits)) (pow-mono number-bits))
-
--- it is added to the words
-pub number-plane : {ws ws′ : List ℕ} {d : List Bool} {w : Window} {n′ : ℕ} {whole′ : Bool} {x : ℕ} (k n at end : ℕ) → n ≤ length ws
-    → NumberRead (length ws) n d at end w n′ whole′ x → ws′ ≡ addAt 0 k (numberBits n′ x) ws → PlaneRead ws ws′ k n d at end w n′ whole′
-unfolding addAt
-number-plane {ws} {d = d} {n′ = n′} k n at end few r e =
-    record {
-      words = e ∙ rw (r .number) (add-number n′ k (readPlane (length ws) n (slice at end d) .bits) ws (number-bits r few));
-      moved = r .moved;
-      holds = r .holds;
-      left = r .left;
-      whole = r .whole;
-    }

@@ -1,12 +1,12 @@
 -- The n first bits and the part of all places after them make one number. Assumes nothing.
-use Rattle.plane_reader.proofs.Short.{short-read, short-left}
+use Rattle.part_reader.proofs.Short.{short-read, short-left}
 use lib.Pow.{pow-pos}
 use native.Mathlib.Nat.{mod-lt}
 use native.Mathlib.Omega.{arith}
 use Prim.Native.Nat.{_-_, _/_, _^_}
 use borrow.Author.Needs.{needs}
-use Rattle.plane_reader.proofs.short_number.Statement.{statement}
-use Rattle.plane_reader.proofs.short_number.Tie as tie
+use Rattle.part_reader.proofs.short_number.Statement.{statement}
+use Rattle.part_reader.proofs.short_number.Tie as tie
 
 cast-first : tie.Need-cast-first
 cast-first c = search needs

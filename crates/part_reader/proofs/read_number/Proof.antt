@@ -1,10 +1,10 @@
 -- A plane whose first bits are in the window is read through it alone; first bits that are cut are what the window has. Assumes nothing.
-use Rattle.plane_reader.proofs.Short.{short-number, number-cut}
+use Rattle.part_reader.proofs.Short.{short-number, number-cut}
 use Rattle.bit_reader.proofs.Windows.{within-bits}
 use native.Mathlib.Omega.{arith}
 use borrow.Author.Needs.{needs}
-use Rattle.plane_reader.proofs.read_number.Statement.{statement}
-use Rattle.plane_reader.proofs.read_number.Tie as tie
+use Rattle.part_reader.proofs.read_number.Statement.{statement}
+use Rattle.part_reader.proofs.read_number.Tie as tie
 
 refill-requires : tie.Need-refill-requires
 refill-requires c κs = search needs
