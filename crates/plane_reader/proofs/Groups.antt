@@ -92,7 +92,7 @@ module _ {N n : ℕ} {s : List Bool} {j v m : ℕ} {d : List Bool} {end : ℕ} {
           n₁ = m;
           at₁ = p;
           k₁ = k - j;
-          last = down;
+          last = omega arith;
           some = omega arith;
           whole = rw (← e) before;
           plane = rw q at more-plane;

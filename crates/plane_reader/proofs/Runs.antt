@@ -73,7 +73,7 @@ some-one {ws} {d = d} base k n at end h l room r =
       holds = r .holds;
       less = omega arith;
       whole = λ e. whole-plane base k n at end h l room r e;
-      cut = λ e. record { words₁ = ws; n₁ = n; at₁ = at; k₁ = k; last = refl; some = h; whole = none; plane = rw e at r };
+      cut = λ e. record { words₁ = ws; n₁ = n; at₁ = at; k₁ = k; last = omega arith; some = h; whole = none; plane = rw e at r };
     }
 
 -- ---- planes with no one

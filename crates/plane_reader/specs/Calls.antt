@@ -62,7 +62,7 @@ pub record CutRead (base : ℕ) (ws ws′ : List ℕ) (k n : ℕ) (d : List Bool
   pub n₁ : ℕ
   pub at₁ : ℕ
   pub k₁ : ℕ
-  pub last : k′ ≡ k₁ - 1
+  pub last : k₁ ≡ k′ + 1
   pub some : base < k₁
   pub whole : Whole base ws k n (slice at end d) words₁ k₁ n₁ (slice at₁ end d)
   pub plane : PlaneRead words₁ ws′ (k₁ - 1) n₁ d at₁ end w n′ false
