@@ -2,12 +2,12 @@
 use mathlib.Core.Path.{_≡_, refl, sym, ap, _∙_}
 use mathlib.Core.Bool.{Bool, true, false}
 use mathlib.Core.List.{List, [], _∷_, _++_}
-use Prim.Native.Nat.{ℕ, zero, suc, _+_, _*_, _/_, _%_, _^_, _≤_, _<_, min}
+use Prim.Native.Nat.{ℕ, zero, suc, _+_, _*_, _/_, _%_, _^_, _-_, _≤_, _<_, min}
 use native.Mathlib.Nat.{add-zero, zero-add, suc-add, mul-one, mul-assoc, div-div-eq-div-mul, div-one}
 use native.Mathlib.Numerals.{add-one}
 use native.Mathlib.Omega.{arith}
 use lib.ListN.{length, getD, set, take, drop}
-use lib.Pow.{pow-add, high}
+use lib.Pow.{pow-add, high, shl-exact}
 use lib.Seq.{take-suc-set, drop-cons, drop-set-lt, append-snoc}
 use Rattle.bits.specs.Stream.{bit, digit, numberBits, numberOf}
 use Rattle.bits.proofs.NumberLaws.{digit-odd, digit-lt, numberBits-take, numberBits-low}
@@ -103,3 +103,12 @@ lanes-up (suc i) m c k v ws h =
     let top : k + suc i ≡ k + 1 + i = omega arith in
     rw (suc-add, sixteen-more v i, top)
     (lanes-more (i + m) c k (v * 2 ^ (16 * i)) 0 ws h (omega arith) ∙ plane-zeros c k _ ∙ lanes-up i m c (k + 1) v ws h)
+
+-- those of four planes that were not read as 0
+pub lanes-four : (j c k v : ℕ) (ws : List ℕ) → c ≤ 16 → j ≤ 4 → 4 ≤ k → v < 2 ^ (16 * j)
+    → addLanes 4 c (k - 4) (v * 2 ^ (64 - 16 * j) % 2 ^ 64) ws ≡ addLanes j c (k - j) v ws
+lanes-four j c k v ws few most four h =
+    let all : 4 - j + j ≡ 4 = omega arith in
+    let up : 16 * (4 - j) ≡ 64 - 16 * j = omega arith in
+    let top : k - 4 + (4 - j) ≡ k - j = omega arith in
+    rw (shl-exact (16 * j) (64 - 16 * j) 64 h (omega arith)) (rw (all, up, top) at (lanes-up (4 - j) j c (k - 4) v ws few))

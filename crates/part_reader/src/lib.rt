@@ -251,7 +251,7 @@ fn laned(y: u64) -> u64
 }
 
 // The planes k + 3 down to k of the `count` first words: v has 16 bits for each plane, those of plane k + 3 highest.
-pub fn add_lanes(words: &mut [u64], k: u32, count: usize, v: u64)
+fn add_lanes(words: &mut [u64], k: u32, count: usize, v: u64)
     requires { ⌜ (k + 4 ≤ 64) × (count ≤ length (now words)) × (count ≤ 16) × Room 64 (k + 4) (now words) ⌝ }
     ensures { λ _. ⌜ now (words .exit) ≡ addLanes 4 count k v (now (words .entry)) ⌝ }
 {
@@ -259,5 +259,19 @@ pub fn add_lanes(words: &mut [u64], k: u32, count: usize, v: u64)
     while i < count {
         add_digits(words, k, i, laned(v >> i));
         i += 1;
+    }
+}
+
+// The j planes from plane k - 1 downward of the `count` first words: v has 16 bits for each plane, those of the last lowest. A single plane is added by
+// its bits, and several in one pass over the words.
+pub fn add_group(words: &mut [u64], k: u32, count: usize, v: u64, j: u32)
+    requires { ⌜ (0 < j) × (j ≤ 4) × (j ≤ k) × (1 < j → 4 ≤ k) × (k ≤ 64) × (count ≤ length (now words)) × (count ≤ 16) × (v < 2 ^ (16 * j))
+        × Room 64 k (now words) ⌝ }
+    ensures { λ _. ⌜ now (words .exit) ≡ addLanes j count (k - j) v (now (words .entry)) ⌝ }
+{
+    if j == 1 {
+        add_bits(words, k - 1, 0, count, v);
+    } else {
+        add_lanes(words, k - 4, count, v << (64 - 16 * j));
     }
 }

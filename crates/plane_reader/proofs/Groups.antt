@@ -1,29 +1,29 @@
 -- Planes of at most 16 places as one number, gathered plane by plane. Assumes nothing.
-use mathlib.Core.Path.{_≡_, refl, sym, _∙_}
+use mathlib.Core.Path.{_≡_, sym, _∙_}
 use mathlib.Core.Bool.{Bool, true, false, true≢false}
 use mathlib.Core.List.{List}
-use Prim.Native.Nat.{ℕ, _+_, _-_, _*_, _%_, _^_, _≤_, _<_}
+use Prim.Native.Nat.{ℕ, _+_, _-_, _*_, _^_, _≤_, _<_}
 use native.Mathlib.Nat.{sub-zero, lt-of-lt-of-le}
 use native.Mathlib.Numerals.{add-one}
 use native.Mathlib.Omega.{arith}
 use lib.ListN.{length}
-use lib.Pow.{pow-add, pow-mono, shl-exact}
+use lib.Pow.{pow-add, pow-mono}
 use lib.Seq.{slice}
 use Rattle.bit_reader.specs.declared.Window.{Window}
 use Rattle.bit_reader.specs.Calls.{place, Holds}
 use Rattle.planes.specs.Reader.{readPlane, addPlane}
 use Rattle.planes.specs.Calls.{Room}
 use Rattle.part_reader.specs.Calls.{NumberRead, addLanes}
-use Rattle.part_reader.proofs.Lanes.{add-number, lanes-more, lanes-up}
+use Rattle.part_reader.proofs.Lanes.{add-number, lanes-more}
 use Rattle.part_reader.proofs.Short.{number-next, number-bits, number-lt}
-use Rattle.plane_reader.specs.Calls.{PlaneRead, Whole, CutRead, SomeRead, GroupRead}
+use Rattle.plane_reader.specs.Calls.{PlaneRead, Whole, CutRead, GroupRead}
 use Rattle.plane_reader.proofs.Runs.{whole-none, whole-more, whole-plane}
 
 -- j whole planes are in v: added to N words, in the m places that they pass or in more, they are read
 pub record Gathered (N n : ℕ) (s : List Bool) (j v m : ℕ) (s′ : List Bool) : Type 0 where
   pub few : v < 2 ^ (16 * j)
   pub within : m ≤ N
-  pub whole : (base k c : ℕ) (ws : List ℕ) → length ws ≡ N → base + 4 ≤ k → Room 64 k ws → m ≤ c → c ≤ 16
+  pub whole : (base k c : ℕ) (ws : List ℕ) → length ws ≡ N → base + j ≤ k → Room 64 k ws → m ≤ c → c ≤ 16
       → Whole base ws k n s (addLanes j c (k - j) v ws) (k - j) m s′
 
 pub gathered-none : (N n : ℕ) (s : List Bool) → n ≤ N → Gathered N n s 0 0 n s
@@ -58,12 +58,12 @@ module _ {N n : ℕ} {s : List Bool} {j v m : ℕ} {d : List Bool} {end : ℕ} {
   pub more-fits : v * 65536 + x < 2 ^ 64
   more-fits = lt-of-lt-of-le more-few (pow-mono {j = 64} (omega arith))
 
-  module _ (base k c : ℕ) (ws : List ℕ) (l : length ws ≡ N) (b : base + 4 ≤ k) (room : Room 64 k ws) (u : m′ ≤ c) (t : c ≤ 16) where
+  module _ (base k c : ℕ) (ws : List ℕ) (l : length ws ≡ N) (b : base + (j + 1) ≤ k) (room : Room 64 k ws) (u : m′ ≤ c) (t : c ≤ 16) where
     abbrev sum : List ℕ
     sum = addLanes j c (k - j) v ws
 
     before : Whole base ws k n s sum (k - j) m (slice p end d)
-    before = g .whole base k c ws l b room (omega (arith, next .0)) t
+    before = g .whole base k c ws l (omega arith) room (omega (arith, next .0)) t
 
     down : k - (j + 1) ≡ k - j - 1
     down = omega arith
@@ -103,28 +103,28 @@ module _ {N n : ℕ} {s : List Bool} {j v m : ℕ} {d : List Bool} {end : ℕ} {
       record { few = more-few; within = next .1; whole = λ base k c ws l b room u t. more-whole base k c ws l b room u t q }
 
   -- the budget cuts it
-  pub gathered-cut : (at : ℕ) → s ≡ slice at end d → whole′ ≡ false → GroupRead N n d at end w m′ (v * 65536 + x) (j + 1) false
-  gathered-cut at e q =
+  pub gathered-cut : (M at : ℕ) → j < M → s ≡ slice at end d → whole′ ≡ false → GroupRead N n M d at end w m′ (v * 65536 + x) (j + 1) false
+  gathered-cut M at l e q =
       record {
         most = omega arith;
         some = omega arith;
         few = more-few;
         within = next .1;
-        read = λ base k ws l b room. record {
+        read = λ base k ws same b room. record {
           holds = r .holds;
           less = omega arith;
           whole = λ f. absurd (true≢false (sym f));
-          cut = λ f. more-cut base k m′ ws l b room (omega arith) (omega (arith, next .1)) at e q;
+          cut = λ f. more-cut base k m′ ws same b room (omega arith) (omega (arith, next .1)) at e q;
         };
       }
 
--- all four
-pub gathered-all : {N n j v m : ℕ} {d : List Bool} {end : ℕ} {w : Window} (at : ℕ) → Gathered N n (slice at end d) j v m (slice (place w) end d)
-    → Holds d end w → N ≤ 16 → j ≡ 4 → GroupRead N n d at end w m v j true
-gathered-all {m = m} at g h short e =
+-- all of them
+pub gathered-all : {N n j v m : ℕ} {d : List Bool} {end : ℕ} {w : Window} (M at : ℕ) → Gathered N n (slice at end d) j v m (slice (place w) end d)
+    → Holds d end w → N ≤ 16 → 0 < j → j ≤ M → GroupRead N n M d at end w m v j true
+gathered-all {m = m} M at g h short some most =
     record {
-      most = omega arith;
-      some = omega arith;
+      most = most;
+      some = some;
       few = g .few;
       within = g .within;
       read = λ base k ws l b room. record {
@@ -134,16 +134,3 @@ gathered-all {m = m} at g h short e =
         cut = λ f. absurd (true≢false f);
       };
     }
-
--- added to the words, with those of four planes that were not read as 0
-pub some-group : {ws′ : List ℕ} {n : ℕ} {d : List Bool} {at end : ℕ} {w : Window} {n′ v j : ℕ} {whole′ : Bool} (base k : ℕ) (ws : List ℕ)
-    → GroupRead (length ws) n d at end w n′ v j whole′ → length ws ≤ 16 → base + 4 ≤ k → Room 64 k ws
-    → ws′ ≡ addLanes 4 n′ (k - 4) (v * 2 ^ (64 - 16 * j) % 2 ^ 64) ws → SomeRead base ws ws′ k n d at end w n′ (k - j) whole′
-some-group {n′ = n′} {v} {j} base k ws g short b room u =
-    let most = g .most in
-    let all : 4 - j + j ≡ 4 = omega arith in
-    let up : 16 * (4 - j) ≡ 64 - 16 * j = omega arith in
-    let top : k - 4 + (4 - j) ≡ k - j = omega arith in
-    let exact = shl-exact (16 * j) (64 - 16 * j) 64 (g .few) (omega arith) in
-    let added = rw (all, up, top) at (lanes-up (4 - j) j n′ (k - 4) v ws (omega (arith, g .within))) in
-    rw ((rw exact at u) ∙ added) (g .read base k ws refl b room)

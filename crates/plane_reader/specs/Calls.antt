@@ -74,13 +74,14 @@ pub record SomeRead (base : ℕ) (ws ws′ : List ℕ) (k n : ℕ) (d : List Boo
   pub whole : whole′ ≡ true → Whole base ws k n (slice at end d) ws′ k′ n′ (slice (place w) end d)
   pub cut : whole′ ≡ false → CutRead base ws ws′ k n d at end w n′ k′
 
--- what reading j planes of N places at n as one number v does, from the place `at` of the stream d on: added to N words, they are some planes read
-pub record GroupRead (N n : ℕ) (d : List Bool) (at end : ℕ) (w : Window) (n′ v j : ℕ) (whole′ : Bool) : Type 0 where
-  pub most : j ≤ 4
+-- what reading j of at most M planes of N places at n as one number v does, from the place `at` of the stream d on: added to N words, they are some
+-- planes read
+pub record GroupRead (N n M : ℕ) (d : List Bool) (at end : ℕ) (w : Window) (n′ v j : ℕ) (whole′ : Bool) : Type 0 where
+  pub most : j ≤ M
   pub some : 0 < j
   pub few : v < 2 ^ (16 * j)
   pub within : n′ ≤ N
-  pub read : (base k : ℕ) (ws : List ℕ) → length ws ≡ N → base + 4 ≤ k → Room 64 k ws
+  pub read : (base k : ℕ) (ws : List ℕ) → length ws ≡ N → base + j ≤ k → Room 64 k ws
       → SomeRead base ws (addLanes j n′ (k - j) v ws) k n d at end w n′ (k - j) whole′
 
 -- what reading p planes of N words of w bits does: where it stopped, and how many planes were whole

@@ -1,30 +1,42 @@
--- The number of the plane is added to the words. Assumes nothing.
-use Rattle.plane_reader.proofs.Reading.{number-plane}
-use Rattle.part_reader.proofs.Short.{number-next}
-use Rattle.bit_reader.specs.Calls.{place}
+-- The number of the planes is added to the words once. Assumes nothing.
 use native.Mathlib.Omega.{arith}
+use mathlib.Core.Path.{refl}
 use borrow.Author.Needs.{needs}
 use Rattle.plane_reader.proofs.read_short.Statement.{statement}
 use Rattle.plane_reader.proofs.read_short.Tie as tie
 
-read-number-requires : tie.Need-read-number-requires
-read-number-requires c κs = search needs
+gather-requires : tie.Need-gather-requires
+gather-requires c κs = search needs
 
-add-bits-requires : tie.Need-add-bits-requires
-add-bits-requires c κs =
-    let s = c .before .before .before .before .before in
-    let next = number-next (c .before .before .read-number .ensures) (s .pre .1) in
-    (s .pre .0, omega arith, omega arith, s .pre .6)
+add-group-requires : tie.Need-add-group-requires
+add-group-requires c κs =
+    let g = c .before .before .gather .ensures in
+    let s = c .before .before .before .before .before in (
+      g .some,
+      omega (arith, g .most, s .pre .1),
+      omega (arith, g .most, s .pre .2),
+      (λ h. s .pre .3 (omega (arith, g .most))),
+      s .pre .4,
+      g .within,
+      omega (arith, g .within, s .pre .6),
+      g .few,
+      s .pre .10,
+    )
+
+sub-t15 : tie.Need-sub-t15
+sub-t15 c = search needs
 
 same-length : tie.Need-same-length
 same-length c = search needs
 
 returns : tie.Need-returns
 returns c =
-    let read = c .before .before .before .before .before in
-    let s = read .before .before .before in
+    let call = c .before .before .before in
+    let g = call .before .before .before .gather .ensures in
+    let s = call .before .before .before .before .before .before in
     let a = s .args in
-    number-plane (a .k) (a .n) (place (a .w)) (a .end) (s .pre .1) (read .read-number .ensures) (c .before .before .add-bits .ensures)
+    λ base b. rw (call .add-group .ensures) (g .read base (a .k) (a .words .now) refl (omega (arith, g .most)) (s .pre .10))
 
 pub read-short-spec : {M : Type 1} → statement M
-read-short-spec = tie.close (tie.spec read-number-requires add-bits-requires same-length returns)
+read-short-spec =
+    tie.close (tie.spec gather-requires add-group-requires sub-t15 same-length returns)

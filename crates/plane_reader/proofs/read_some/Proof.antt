@@ -1,4 +1,4 @@
--- Four planes that the window has, a group of planes, or one plane. Assumes nothing.
+-- Four planes that the window has, planes of a short block, or one plane. Assumes nothing.
 use Rattle.plane_reader.proofs.Runs.{some-one, some-four}
 use Rattle.bit_reader.specs.Calls.{place}
 use Rattle.bit_reader.proofs.Windows.{within-bits}
@@ -38,8 +38,8 @@ add-four-requires c κs =
 taken-requires : tie.Need-taken-requires
 taken-requires c κs = search needs
 
-sub-t18 : tie.Need-sub-t18
-sub-t18 c = omega (arith, fours (c .before .before .before .before .before .before .before .before) .2)
+sub-t19 : tie.Need-sub-t19
+sub-t19 c = omega (arith, fours (c .before .before .before .before .before .before .before .before) .2)
 
 same-length : tie.Need-same-length
 same-length c = search needs
@@ -53,23 +53,28 @@ returns c =
     some-four (a .base) (a .k) (a .words .now) (s .pre .6) (filled .refill .ensures) (within-bits (a .buf .now) (s .pre .3)) (fours (filled .before))
     (test .if2 .taken) (c .before .before .before .add-four .ensures) (c .taken .ensures)
 
-sub-group-next : tie.Need-sub-group-next
-sub-group-next c = search needs
+sub-group-size : tie.Need-sub-group-size
+sub-group-size c = search needs
 
-group-next-requires : tie.Need-group-next-requires
-group-next-requires c κs = search needs
+group-size-requires : tie.Need-group-size-requires
+group-size-requires c κs = search needs
 
--- what is known where a group is next
-group : (c : tie.Then3)
-    → let a = c .before .before .before .before .before .before .args in
-    (length (a .words .now) ≤ 16) × (4 ≤ a .k - a .base)
-group c = c .before .group-next .ensures (c .if3 .taken)
-
-read-group-requires : tie.Need-read-group-requires
-read-group-requires c κs =
-    let g = group (c .before) in
-    let s = c .before .before .before .before .before .before .before in
-    (omega arith, s .pre .1, s .pre .2, g .0, s .pre .3, s .pre .4, s .pre .5, s .pre .6)
+read-short-requires : tie.Need-read-short-requires
+read-short-requires c κs =
+    let g = c .before .group-size .ensures in
+    let s = c .before .before .before .before .before .before .before in (
+      g .0,
+      g .1,
+      omega (arith, g .2),
+      (λ h. omega (arith, g .3 h)),
+      s .pre .1,
+      s .pre .2,
+      c .before .before .if3 .taken,
+      s .pre .3,
+      s .pre .4,
+      s .pre .5,
+      s .pre .6,
+    )
 
 same-length-2 : tie.Need-same-length-2
 same-length-2 c = search needs
@@ -77,29 +82,29 @@ same-length-2 c = search needs
 returns-2 : tie.Need-returns-2
 returns-2 c =
     let call = c .before .before in
-    let g = group (call .before .before) in
-    call .read-group .ensures _ (omega arith)
+    let s = call .before .before .before .before .before .before .before .before in
+    call .read-short .ensures _ (omega (arith, call .before .before .group-size .ensures .2, s .pre .0))
 
-sub-read-plane : tie.Need-sub-read-plane
-sub-read-plane c = search needs
+sub-read-long : tie.Need-sub-read-long
+sub-read-long c = search needs
 
-read-plane-requires : tie.Need-read-plane-requires
-read-plane-requires c κs =
-    let s = c .before .before .before .before .before .before .before in
+read-long-requires : tie.Need-read-long-requires
+read-long-requires c κs =
+    let s = c .before .before .before .before .before .before in
     let e : s .args .k ≡ suc (s .args .k - 1) = omega (arith, s .pre .0) in
     (omega (arith, s .pre .0, s .pre .1), s .pre .2, s .pre .3, s .pre .4, s .pre .5, rw e at (s .pre .6))
 
-sub-t13 : tie.Need-sub-t13
-sub-t13 c = search needs
+sub-t14 : tie.Need-sub-t14
+sub-t14 c = search needs
 
 same-length-3 : tie.Need-same-length-3
 same-length-3 c = search needs
 
 returns-3 : tie.Need-returns-3
 returns-3 c =
-    let s = c .before .before .before .before .before .before .before .before .before .before .before in
+    let s = c .before .before .before .before .before .before .before .before .before .before in
     let a = s .args in
-    some-one (a .base) (a .k) (a .n) (place (a .w)) (a .end) (s .pre .0) (s .pre .2) (s .pre .6) (c .before .before .before .read-plane .ensures)
+    some-one (a .base) (a .k) (a .n) (place (a .w)) (a .end) (s .pre .0) (s .pre .2) (s .pre .6) (c .before .before .before .read-long .ensures)
 
 pub read-some-spec : {M : Type 1} → statement M
 read-some-spec =
@@ -111,16 +116,16 @@ read-some-spec =
     sub-add-four
     add-four-requires
     taken-requires
-    sub-t18
+    sub-t19
     same-length
     returns
-    sub-group-next
-    group-next-requires
-    read-group-requires
+    sub-group-size
+    group-size-requires
+    read-short-requires
     same-length-2
     returns-2
-    sub-read-plane
-    read-plane-requires
-    sub-t13
+    sub-read-long
+    read-long-requires
+    sub-t14
     same-length-3
     returns-3)
