@@ -29,9 +29,9 @@ plane-cons k ws i h =
 pub plane-end : (k : ℕ) (ws : List ℕ) (i : ℕ) → length ws ≤ i → drop i (plane k ws) ≡ []
 plane-end k ws i h = drop-of-length-le (plane k ws) {i = i} (omega (arith, plane-length k ws))
 
-none : (bs : List Bool) → 0 < length bs → any bs ≡ false → test bs ≡ false ∷ []
-none [] h e = absurd (omega arith)
-none (b ∷ bs) h e = rw e
+pub zeros-test : (bs : List Bool) → 0 < length bs → any bs ≡ false → test bs ≡ false ∷ []
+zeros-test [] h e = absurd (omega arith)
+zeros-test (b ∷ bs) h e = rw e
 
 some : (bs : List Bool) → any bs ≡ true → 0 < length bs
 some [] e = absurd (true≢false (sym e))
@@ -40,7 +40,7 @@ some (b ∷ bs) e = omega arith
 module _ (k : ℕ) (ws : List ℕ) (n : ℕ) where
   -- a test where no ones are left, and past the last place
   pub test-none : n < length ws → any (drop n (plane k ws)) ≡ false → test (drop n (plane k ws)) ≡ false ∷ []
-  test-none h e = none (drop n (plane k ws)) (omega (arith, length-drop n (plane k ws), plane-length k ws)) e
+  test-none h e = zeros-test (drop n (plane k ws)) (omega (arith, length-drop n (plane k ws), plane-length k ws)) e
 
   pub test-end : length ws ≤ n → test (drop n (plane k ws)) ≡ []
   test-end h = rw (plane-end k ws n h)
@@ -95,6 +95,11 @@ pub number-none : (bs : List Bool) → any bs ≡ false → numberOf bs ≡ 0
 number-none [] e = refl
 number-none (true ∷ bs) e = absurd (true≢false e)
 number-none (false ∷ bs) e = omega (arith, number-none bs e)
+
+pub none-number : (bs : List Bool) → numberOf bs ≡ 0 → any bs ≡ false
+none-number [] e = refl
+none-number (true ∷ bs) e = absurd (omega arith)
+none-number (false ∷ bs) e = none-number bs (omega arith)
 
 number-below : (bs : List Bool) → numberOf bs < 2 ^ onesEnd bs
 number-below [] = omega arith

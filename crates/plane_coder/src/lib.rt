@@ -173,6 +173,24 @@ fn put_first(buf: &mut [u8], w: Pending, limit: usize, x: u32, n: usize) -> Pend
     bit_writer::push(buf, w, limit, first_bits(x, n), n as u32)
 }
 
+// Writes the n first bits of a plane whose bits are x, with no ones past them, and the 0 of the test.
+fn put_ended(buf: &mut [u8], w: Pending, limit: usize, x: u32, n: usize) -> Pending
+    requires { ⌜ (n < 16) × (x < 2 ^ n) × Ready w × (limit ≤ 8 * length (now buf)) × (w .out .at + 64 < 2 ^ 32) ⌝ }
+    ensures { λ r. ⌜ ((bs : List Bool) → n < length bs → x ≡ numberOf bs
+        → Advanced (now (buf .entry)) (now (buf .exit)) w limit (planeCode n bs) (planeNext n bs) r n)
+        × (r .out .writes ≤ w .out .writes + mostWrites n) ⌝ }
+{
+    bit_writer::push(buf, w, limit, x as u64, n as u32 + 1)
+}
+
+// Whether places are left after n, of so many, and none of them has a one.
+fn ended(x: u32, places: usize, n: usize) -> bool
+    requires { ⌜ n ≤ 16 ⌝ }
+    ensures { λ r. ⌜ (r ≡ true → (n < places) × (x < 2 ^ n)) ⌝ }
+{
+    if n < places { x >> n == 0 } else { false }
+}
+
 // The test of a plane of so many places whose bits are x, from place n on.
 fn short_test(x: u32, places: usize, n: usize) -> Short
     requires { ⌜ (n < places) × (places ≤ 16) ⌝ }
@@ -199,6 +217,10 @@ fn put_short(words: &[u64], k: u32, n: usize, buf: &mut [u8], w: Pending, limit:
         (planeCode n (plane k (now (words .entry)))) (planeNext n (plane k (now (words .entry)))) (r .out) (r .n) ⌝ }
 {
     let x = gather_all(words, k);
+    if ended(x, words.len(), n) {
+        let next = put_ended(buf, w, limit, x, n);
+        return Coder { out: next, n };
+    }
     let first = put_first(buf, w, limit, x, n);
     if n == words.len() {
         return Coder { out: first, n };
@@ -247,8 +269,8 @@ fn put_none(words: &[u64], k: u32, n: usize, buf: &mut [u8], w: Pending, limit: 
         (planeCode n (plane k (now (words .entry)))) (planeNext n (plane k (now (words .entry)))) (r .out) (r .n)
         × (r .out .out .writes ≤ w .out .writes + mostWrites n) ⌝ }
 {
-    let v = plane_parts::gather(words, k, 0, n, 0);
-    let next = bit_writer::push(buf, w, limit, v as u64, n as u32 + 1);
+    let x = plane_parts::gather(words, k, 0, n, 0);
+    let next = put_ended(buf, w, limit, x, n);
     Coder { out: next, n }
 }
 
