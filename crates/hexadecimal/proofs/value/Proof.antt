@@ -3,10 +3,10 @@ use mathlib.Core.Path.{◌≡◌, refl, ◌∙◌}
 use Prim.Native.Nat.{◌+◌, ◌-◌, ◌*◌, ◌^◌, ◌≤◌, ◌<◌, suc}
 use native.Mathlib.Omega.{arith}
 use lib.Seq.{slice, slice_empty}
-use Rattle.hex.specs.Digits.{value_after, hex_value}
-use Rattle.hex.proofs.DigitLaws.{value_turn, digit_more, eight_fit}
-use Rattle.hex.proofs.value.Statement.{statement}
-use Rattle.hex.proofs.value.Tie as tie
+use Rattle.hexadecimal.specs.Digits.{value_after, hex_value}
+use Rattle.hexadecimal.proofs.DigitLaws.{value_turn, digit_more, eight_fit}
+use Rattle.hexadecimal.proofs.value.Statement.{statement}
+use Rattle.hexadecimal.proofs.value.Tie as tie
 
 abbrev invariant-loop : tie.invariant-loop
 invariant-loop bytes from to v₀ i₀ v i = (value_after v (slice i to bytes) ≡ hex_value (slice from to bytes)) × (from ≤ i) × (i ≤ to) × (v < 16 ^ (i - from))

@@ -3,7 +3,7 @@ ghost use Rattle.std.specs.Prelude.{◌≡◌, ◌+◌, ◌*◌, ◌≤◌, ◌<
 ghost use mathlib.Core.List.{flat_map};
 ghost use Rattle.std.proofs.lemmas.List.Edits.{sets};
 ghost use Rattle.std.proofs.Math.Seq.{slice};
-ghost use Rattle.hex.specs.Digits.{hex_digit, hex_digits, is_decimal, is_letter, is_digit, all_digits, digit_value, hex_value};
+ghost use Rattle.hexadecimal.specs.Digits.{hex_digit, hex_digits, is_decimal, is_letter, is_digit, all_digits, digit_value, hex_value};
 
 // The digit of a number below 16.
 fn hex_digit(d: u8) -> u8

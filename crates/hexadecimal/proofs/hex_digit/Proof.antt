@@ -1,10 +1,10 @@
 -- Below 10 the digit is a numeral, from there on a letter. Assumes nothing.
 use native.Mathlib.Omega.{arith}
 use borrow.Author.Tests.{lt-ltb, le-ltb}
-use Rattle.hex.specs.Digits.{hex_digit}
+use Rattle.hexadecimal.specs.Digits.{hex_digit}
 use borrow.Author.Rules.{rules}
-use Rattle.hex.proofs.hex_digit.Statement.{statement}
-use Rattle.hex.proofs.hex_digit.Tie as tie
+use Rattle.hexadecimal.proofs.hex_digit.Statement.{statement}
+use Rattle.hexadecimal.proofs.hex_digit.Tie as tie
 
 add-result : tie.Need-overflow-add-result
 add-result c = search rules

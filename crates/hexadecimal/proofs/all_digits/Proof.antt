@@ -5,10 +5,10 @@ use native.Mathlib.Omega.{arith}
 use borrow.Author.Tests.{not-true, not-false}
 use lib.ListN.{length, drop, drop_of_length-le}
 use native.Mathlib.Numerals.{add-one}
-use Rattle.hex.specs.Digits.{all_digits}
-use Rattle.hex.proofs.DigitLaws.{digit_first}
-use Rattle.hex.proofs.all_digits.Statement.{statement}
-use Rattle.hex.proofs.all_digits.Tie as tie
+use Rattle.hexadecimal.specs.Digits.{all_digits}
+use Rattle.hexadecimal.proofs.DigitLaws.{digit_first}
+use Rattle.hexadecimal.proofs.all_digits.Statement.{statement}
+use Rattle.hexadecimal.proofs.all_digits.Tie as tie
 
 abbrev invariant-loop : tie.invariant-loop
 invariant-loop bytes i₀ i = (all_digits (drop i bytes) ≡ all_digits bytes) × (i ≤ length bytes)

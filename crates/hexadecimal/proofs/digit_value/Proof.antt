@@ -1,10 +1,10 @@
 -- Each kind of digit has its range. Assumes nothing.
 use mathlib.Core.Path.{sym, ◌∙◌}
 use native.Mathlib.Omega.{arith}
-use Rattle.hex.proofs.DigitLaws.{decimal, letter, decimal_value, letter_value, other_value}
+use Rattle.hexadecimal.proofs.DigitLaws.{decimal, letter, decimal_value, letter_value, other_value}
 use borrow.Author.Rules.{rules}
-use Rattle.hex.proofs.digit_value.Statement.{statement}
-use Rattle.hex.proofs.digit_value.Tie as tie
+use Rattle.hexadecimal.proofs.digit_value.Statement.{statement}
+use Rattle.hexadecimal.proofs.digit_value.Tie as tie
 
 is-decimal-requires : tie.Need-is-decimal-requires
 is-decimal-requires c κs = search rules

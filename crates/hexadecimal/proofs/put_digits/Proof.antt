@@ -6,10 +6,10 @@ use native.Mathlib.Omega.{arith}
 use lib.ListN.{length, length-set}
 use lib.Seq.{sets}
 use borrow.Author.Rules.{rules}
-use Rattle.hex.specs.Digits.{hex_digits}
-use Rattle.hex.proofs.DigitLaws.{digit_turn}
-use Rattle.hex.proofs.put_digits.Statement.{statement}
-use Rattle.hex.proofs.put_digits.Tie as tie
+use Rattle.hexadecimal.specs.Digits.{hex_digits}
+use Rattle.hexadecimal.proofs.DigitLaws.{digit_turn}
+use Rattle.hexadecimal.proofs.put_digits.Statement.{statement}
+use Rattle.hexadecimal.proofs.put_digits.Tie as tie
 
 abbrev invariant-loop : tie.invariant-loop
 invariant-loop out₀ at n k i₀ out i = (sets out (at + i) (hex_digits (k - i) n) ≡ sets out₀ at (hex_digits k n)) × (i ≤ k) × (length out ≡ length out₀)

@@ -1,8 +1,8 @@
 -- The first bound decides whether the second is tested. Assumes nothing.
 use native.Mathlib.Omega.{arith}
 use borrow.Author.Tests.{le-leb, lt-leb}
-use Rattle.hex.proofs.is_letter.Statement.{statement}
-use Rattle.hex.proofs.is_letter.Tie as tie
+use Rattle.hexadecimal.proofs.is_letter.Statement.{statement}
+use Rattle.hexadecimal.proofs.is_letter.Tie as tie
 
 returns : tie.Need-returns
 returns c = rw (le-leb 97 c.before.args.b (omega arith))

@@ -7,10 +7,10 @@ use native.Mathlib.Omega.{arith}
 use lib.ListN.{length, drop, drop_of_length-le}
 use lib.Seq.{sets}
 use borrow.Author.Rules.{rules}
-use Rattle.hex.specs.Digits.{hex_digits}
-use Rattle.hex.proofs.DigitLaws.{bytes_turn}
-use Rattle.hex.proofs.put_bytes.Statement.{statement}
-use Rattle.hex.proofs.put_bytes.Tie as tie
+use Rattle.hexadecimal.specs.Digits.{hex_digits}
+use Rattle.hexadecimal.proofs.DigitLaws.{bytes_turn}
+use Rattle.hexadecimal.proofs.put_bytes.Statement.{statement}
+use Rattle.hexadecimal.proofs.put_bytes.Tie as tie
 
 abbrev invariant-loop : tie.invariant-loop
 invariant-loop out₀ at bytes i₀ out i =

@@ -1,8 +1,8 @@
 -- A decimal digit or a letter. Assumes nothing.
 use mathlib.Core.Path.{sym, ◌∙◌}
 use borrow.Author.Rules.{rules}
-use Rattle.hex.proofs.is_digit.Statement.{statement}
-use Rattle.hex.proofs.is_digit.Tie as tie
+use Rattle.hexadecimal.proofs.is_digit.Statement.{statement}
+use Rattle.hexadecimal.proofs.is_digit.Tie as tie
 
 is-decimal-requires : tie.Need-is-decimal-requires
 is-decimal-requires c κs = search rules
