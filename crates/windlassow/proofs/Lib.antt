@@ -1,2 +1,0 @@
--- What the walks of `windlassow` share.
-pub mod Thin
