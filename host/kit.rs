@@ -12,13 +12,16 @@ pub fn is_left_out() -> bool {
     env::var_os("WINDLASSOW_NO_LINK").is_some_and(|value| value != "0")
 }
 
-/// Has `file` made by `rt WORDS` if it is missing or older than a file under `crates/`.
-pub fn made(root: &Path, file: &Path, words: &[&str]) {
-    println!("cargo:rerun-if-changed={}", root.join("crates").display());
+/// Has `file` made by `tools/built NAME` if it is missing or older than a file of the crates.
+pub fn made(root: &Path, file: &Path, name: &str) {
+    println!("cargo:rerun-if-changed={}", root.join("crates.txt").display());
+    for folder in sources(root).unwrap_or_else(|error| fail(&format!("cannot look through crates/: {error}"))) {
+        println!("cargo:rerun-if-changed={}", folder.display());
+    }
     println!("cargo:rerun-if-changed={}", file.display());
     println!("cargo:rerun-if-changed={}", root.join("host/kit.rs").display());
     if !up_to_date(file, root) {
-        make(words, root, file);
+        make(name, root, file);
     }
 }
 
@@ -33,10 +36,28 @@ fn up_to_date(file: &Path, root: &Path) -> bool {
     let Ok(made) = fs::metadata(file).and_then(|data| data.modified()) else {
         return false;
     };
-    match newest(&root.join("crates")) {
+    match newest_source(root) {
         Ok(changed) => changed <= made,
         Err(error) => fail(&format!("cannot look through crates/: {error}")),
     }
+}
+
+/// What the crates are made of: `src`, `specs` and `proofs` of each, and not `out`, where `rt` leaves its results.
+fn sources(root: &Path) -> io::Result<Vec<PathBuf>> {
+    let mut folders = Vec::new();
+    for entry in fs::read_dir(root.join("crates"))? {
+        let crate_folder = entry?.path();
+        folders.extend(["src", "specs", "proofs"].map(|part| crate_folder.join(part)).into_iter().filter(|part| part.is_dir()));
+    }
+    Ok(folders)
+}
+
+fn newest_source(root: &Path) -> io::Result<SystemTime> {
+    let mut time = root.join("crates.txt").metadata()?.modified()?;
+    for folder in sources(root)? {
+        time = time.max(newest(&folder)?);
+    }
+    Ok(time)
 }
 
 /// The time of the newest file in a folder and in those below it.
@@ -54,12 +75,11 @@ fn newest(folder: &Path) -> io::Result<SystemTime> {
     Ok(time)
 }
 
-/// Runs `rt` while no other build script does, since cargo runs several at a time: a second run of it finds all proved.
-fn make(words: &[&str], root: &Path, file: &Path) {
-    let command = format!("rt {}", words.join(" "));
+/// Runs `tools/built` while no other build script does, since cargo runs several at a time: a second run of it finds all proved.
+fn make(name: &str, root: &Path, file: &Path) {
+    let command = format!("tools/built {name}");
     let target = root.join("target");
-    let logs = target.join("log");
-    can_write(&logs).unwrap_or_else(|error| fail(&format!("cannot write to {}: {error}", logs.display())));
+    fs::create_dir_all(&target).unwrap_or_else(|error| fail(&format!("cannot write to {}: {error}", target.display())));
     if Command::new("rt").arg("help").output().is_err() {
         fail(&format!(
             "{} is missing or older than crates/, and the Rattle kit's command 'rt', which makes it, is not on \
@@ -67,8 +87,8 @@ fn make(words: &[&str], root: &Path, file: &Path) {
             file.display()
         ));
     }
-    let log = target.join(format!("{}.log", words.join("-")));
-    let status = run(words, root, &target.join("host.lock"), &log);
+    let log = target.join(format!("built-{name}.log"));
+    let status = run(name, root, &target.join("host.lock"), &log);
     let status = status.unwrap_or_else(|error| fail(&format!("cannot run 'flock' for '{command}': {error}")));
     if !status.success() {
         let said = fs::read(&log).unwrap_or_default();
@@ -77,34 +97,17 @@ fn make(words: &[&str], root: &Path, file: &Path) {
     if !file.exists() {
         fail(&format!("'{command}' ended well but wrote no {}", file.display()));
     }
-    // rt leaves the file alone if what it is made of has not changed. Then it is as good as new.
     if !up_to_date(file, root) {
         touch(file).unwrap_or_else(|error| fail(&format!("cannot touch {}: {error}", file.display())));
     }
 }
 
-/// That a file of the folder can be made, and that those there can be written. Where `rt` cannot write its results it
-/// goes by those of an earlier run.
-fn can_write(folder: &Path) -> io::Result<()> {
-    fs::create_dir_all(folder)?;
-    let probe = folder.join(format!("probe-{}", std::process::id()));
-    fs::write(&probe, "probe\n")?;
-    for entry in fs::read_dir(folder)? {
-        match File::options().append(true).open(entry?.path()) {
-            // Another build script's probe.
-            Err(error) if error.kind() == io::ErrorKind::NotFound => {}
-            opened => drop(opened?),
-        }
-    }
-    fs::remove_file(probe)
-}
-
 /// What `rt` says goes to `log` as it says it, since cargo shows nothing of a build script before its end.
-fn run(words: &[&str], root: &Path, lock: &Path, log: &Path) -> io::Result<ExitStatus> {
+fn run(name: &str, root: &Path, lock: &Path, log: &Path) -> io::Result<ExitStatus> {
     let said = File::create(log)?;
-    let mut rt = Command::new("flock");
-    rt.arg(lock).arg("rt").args(words).current_dir(root).stdin(Stdio::null());
-    rt.stdout(said.try_clone()?).stderr(said).status()
+    let mut built = Command::new("flock");
+    built.arg(lock).arg("tools/built").arg(name).current_dir(root).stdin(Stdio::null());
+    built.stdout(said.try_clone()?).stderr(said).status()
 }
 
 fn touch(file: &Path) -> io::Result<()> {

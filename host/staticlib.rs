@@ -5,7 +5,7 @@ mod kit;
 
 /// Links `target/staticlib/libNAME.a` of the repository into the package being built.
 ///
-/// The archive is made with `rt staticlib NAME` if it is missing or older than a file under `crates/`. With
+/// The archive is made with `tools/built NAME` if it is missing or older than a file of the crates. With
 /// `WINDLASSOW_NO_LINK` set nothing is linked.
 pub fn link(name: &str) {
     if kit::is_left_out() {
@@ -13,7 +13,7 @@ pub fn link(name: &str) {
     }
     let root = kit::repository();
     let folder = root.join("target/staticlib");
-    kit::made(&root, &folder.join(format!("lib{name}.a")), &["staticlib", name]);
+    kit::made(&root, &folder.join(format!("lib{name}.a")), name);
     println!("cargo:rustc-link-search=native={}", folder.display());
     println!("cargo:rustc-link-lib=static={name}");
 }

@@ -1,6 +1,6 @@
 /*
  * Windlassow: blocks of readings in slots of equal width, and doubles in FPC streams.
- * The calls of the static library libwindlassow.a (x86-64 Linux).
+ * The calls of the static library libwindlassow.a (x86-64 Linux, a processor of level v2 or newer).
  *
  * Buffers
  *   A buffer is lent as a pointer and a length in elements. The pointer must not be null, not even
@@ -130,7 +130,7 @@
  *   that were never written may be given before a 23. A stream cut off between two pairs is a whole one.
  *
  * Building
- *   rt staticlib windlassow      proves the crates, which takes minutes the first time, and writes
+ *   tools/built windlassow       proves the crates, which takes minutes the first time, and writes
  *                                target/staticlib/libwindlassow.a
  *   cc -I include program.c target/staticlib/libwindlassow.a -o program
  */

@@ -8,16 +8,20 @@ need_rt() {
     fi
 }
 
-# Where rt cannot write its results to target/log it goes by those of an earlier run, and would pass a wrong program. So nothing is
-# asked of it unless a file can be written there and each file there is writable.
+# rt writes beside each crate, to its out/, and what it builds is put to target/. Where it cannot, it ends with a page of its own insides.
 need_target() {
-    local probe=target/log/probe.$$ kept=
-    if { mkdir -p target/log && echo probe >"$probe" && [ "$(cat "$probe")" = probe ] && rm "$probe"; } 2>/dev/null; then
-        kept=$(find target/log target/stamp target/rlib ! -writable -print -quit 2>/dev/null)
-        [ -n "$kept" ] || return 0
+    local probe=target/probe.$$ folder
+    if ! { mkdir -p target && echo probe >"$probe" && [ "$(cat "$probe")" = probe ] && rm "$probe"; } 2>/dev/null; then
+        echo "windlassow: cannot write target in $PWD, where what is built is put" >&2
+        exit 2
     fi
-    echo "windlassow: cannot write ${kept:-target/log} in $PWD, where the prover leaves its results" >&2
-    exit 2
+    for folder in crates/*/; do
+        [ ! -e "${folder}out" ] || folder=${folder}out/
+        if [ ! -w "$folder" ]; then
+            echo "windlassow: cannot write $folder in $PWD, where the prover leaves its results" >&2
+            exit 2
+        fi
+    done
 }
 
 # ---- what is started, and its end
@@ -85,7 +89,7 @@ trap tidy EXIT
 
 # The crates of crates.txt, one a line.
 crate_names() {
-    sed -n 's/#.*//; s/^[ \t]*\([a-z0-9_]*\)[ \t]*:.*/\1/p' crates.txt
+    sed -n 's/#.*//; s/^[ \t]*\([a-z0-9_]*\)[^:]*:.*/\1/p' crates.txt
 }
 
 crate_count() {
@@ -108,8 +112,13 @@ reached() {
             for (k = 1; k <= count; k++) visit(parts[k])
         }
         { sub(/#.*/, ""); i = index($0, ":"); if (!i) next
-          n = substr($0, 1, i - 1); gsub(/[ \t]/, "", n); deps[n] = substr($0, i + 1) }
+          n = substr($0, 1, i - 1); sub(/^[ \t]+/, "", n); sub(/[ \t].*/, "", n); deps[n] = substr($0, i + 1) }
         END { count = split(wanted, names, " "); for (j = 1; j <= count; j++) visit(names[j]) }' crates.txt
+}
+
+# newer_than FILE: a file or a folder of the crates that is newer, or nothing. What rt leaves in out/ does not count.
+newer_than() {
+    find crates.txt crates/*/src crates/*/specs crates/*/proofs -newer "$1" -print -quit 2>/dev/null
 }
 
 # ---- what the prover says
@@ -118,10 +127,10 @@ elapsed() {
     printf '%d:%02d' $((SECONDS / 60)) $((SECONDS % 60))
 }
 
-# progress CRATES EDITS FILE: a line for each crate and each edit, 'k of n' with the time so far; the file is made once every crate was tried. What the prover says of a crate that it
-# proves, notes on slow steps among it, is in target/log and is not shown; what it says of one that it does not prove is.
+# progress CRATES EDITS: a line for each crate and each edit, 'k of n' with the time so far, and rt's other lines as they are. What the prover says of a
+# crate that it proves, notes on slow steps among it, is not shown; what it says of one that it does not prove is.
 progress() {
-    local crates=$1 edits=$2 tried=${3:-/dev/null} crate=0 edit=0 held='' open='' line
+    local crates=$1 edits=$2 crate=0 edit=0 held='' open='' line
     while IFS= read -r line; do
         case $line in
         'rt: must-fail '*)
@@ -129,7 +138,7 @@ progress() {
             printf '%s edit %d of %d: %s\n' "$(elapsed)" "$edit" "$edits" "${line#rt: must-fail }"
             case $line in *': BAD EDIT: '*) open=1 ;; *) open='' ;; esac
             ;;
-        'rt: '*' proved ('*')')
+        'rt: '*' proved' | 'rt: '*' is kept: '*)
             crate=$((crate + 1)) held='' open=''
             printf '%s crate %d of %d: %s\n' "$(elapsed)" "$crate" "$crates" "${line#rt: }"
             ;;
@@ -142,33 +151,48 @@ progress() {
             printf '%s%s\n' "$held" "$line"
             held='' open=''
             ;;
-        [0-9]*' passed, '*' failed') ;;
+        [0-9]*' passed, '*' failed'*) ;;
         *) if [ -n "$open" ]; then printf '%s\n' "$line"; else held=$held$line$'\n'; fi ;;
         esac
-        [ "$crate" -lt "$crates" ] || [ -e "$tried" ] || : >"$tried"
     done
     printf '%s' "$held"
 }
 
-# How many provers run at a time. rt starts so many and waits for all of them before it starts more, so with two a processor few of the
-# processors wait; one takes up to 1.3 GB of memory. RT_JOBS, if it is set, decides.
-prover_jobs() {
-    local jobs room
-    jobs=$((2 * $(nproc 2>/dev/null || echo 1)))
-    room=$(awk '/^MemAvailable:/ { print int($2 / 1500000) }' /proc/meminfo 2>/dev/null)
-    [ -z "$room" ] || [ "$room" -ge "$jobs" ] || jobs=$room
-    [ "$jobs" -ge 1 ] || jobs=1
-    echo "${RT_JOBS:-$jobs}"
-}
-
-# prove_crates NAME..: these, or all
+# prove_crates NAME..: these and what they stand on, or all. rt proves what a crate stands on first, where that has changed.
 prove_crates() {
-    RT_JOBS=$(prover_jobs) rt check "$@" 2>&1 | progress "$(reached "$@" | wc -l)" 0
-    return "${PIPESTATUS[0]}"
+    local name said status
+    need_room
+    said=$room/check
+    if [ $# = 0 ]; then
+        rt all check 2>&1 | tee "$said" | checked "$(crate_count)"
+        return "${PIPESTATUS[0]}"
+    fi
+    for name in "$@"; do
+        (set -o pipefail && (cd "crates/$name" && rt check) 2>&1 </dev/null | tee "$said" | checked "$(reached "$name" | wc -l)")
+        status=$?
+        if [ "$status" != 0 ]; then
+            grep -v '^\(statements\|library\|logic\|axioms\) ' "$said"
+            echo "$(elapsed) $name NOT PROVED"
+            return "$status"
+        fi
+        echo "$(elapsed) $name proved"
+    done
 }
 
-# prove_all LOG [FILE]: the gate, with all that rt says in LOG; the file is made once every crate was tried
+# checked CRATES: of what a check says, a line for each crate at which it begins, 'k of n'
+checked() {
+    local crates=$1 crate=0 line
+    while IFS= read -r line; do
+        case $line in
+        '== summary' | [a-z0-9_]*': ok' | [a-z0-9_]*': failed'*) echo "$line" ;;
+        'rt: chose '*' for '* | '== '*) crate=$((crate + 1)) && printf '%s crate %d of at most %d: %s\n' "$(elapsed)" "$crate" "$crates" "${line##* }" ;;
+        'rt: '*NOT* | *': error: '*) printf '%s\n' "$line" ;;
+        esac
+    done
+}
+
+# prove_all LOG: the gate, with all that rt says in LOG
 prove_all() {
-    RT_JOBS=$(prover_jobs) rt ci 2>&1 | tee "$1" | progress "$(crate_count)" "$(edit_count)" "${2:-/dev/null}"
+    rt ci 2>&1 | tee "$1" | progress "$(crate_count)" "$(edit_count)"
     return "${PIPESTATUS[0]}"
 }

@@ -31,7 +31,7 @@ copies() {
 
 copy_statuses() {
     local code ran="in $room/caller: <--kind> <floats> <--dimension> <1> <--width=8N> <old file> <../new>"
-    local proving="windlassow: proving and building the library first, some five minutes; target/staticlib-windlassow.log shows how far it is"
+    local proving="windlassow: proving and building the library first, some five minutes; target/built-windlassow.log shows how far it is"
     copier
     mkdir -p "$room/caller" "$copy/target/staticlib"
     copies 0 "$proving"$'\n'"$ran"

@@ -1,5 +1,5 @@
 /* The ten calls of windlassow.h, on cases of the papers. Compiles as C99 and as C++. From the repository's folder:
- *   rt staticlib windlassow
+ *   tools/built windlassow
  *   cc -I include host/c/example.c target/staticlib/libwindlassow.a -o target/example
  */
 #include <stdio.h>

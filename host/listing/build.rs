@@ -13,6 +13,6 @@ fn main() {
     }
     let root = kit::repository();
     let program = root.join("target/bin/listing");
-    kit::made(&root, &program, &["check", "listing"]);
+    kit::made(&root, &program, "listing");
     println!("cargo:rustc-env=LISTING_PROGRAM={}", program.display());
 }

@@ -12,12 +12,12 @@ FILENAME ~ /functions$/ {
 }
 { print (path[3] == "specs" ? "definition" : "law"), crate, crate "." module "." $3, $3, 0, $6, $7, cited($1, $6) }
 
-# crates/C/specs/F.antt: F; crates/C/proofs/a/b/Proof.antt: C::a::b; crates/C/src/m.rt: C::m, and C for lib and main
+# crates/C/specs/F.antt: F; crates/C/proofs/a/b/Proof.antt: C::a::b, and C::a::b::Answers of another file there; crates/C/src/m.rt: C::m, and C for lib and main
 function inner(file,   s) {
     s = file
     sub(/^crates\/[^\/]*\/[^\/]*\//, "", s)
     if (s ~ /\.rt$/) { sub(/\.rt$/, "", s); s = s ~ /^(lib|main)$/ ? "" : s }
-    else if (s ~ /Proof\.antt$/) sub(/\/?Proof\.antt$/, "", s)
+    else if (s ~ /\// && file ~ /\/proofs\//) { if (!sub(/\/Proof\.antt$/, "", s)) sub(/\.antt$/, "", s) }
     else { sub(/\.antt$/, "", s); gsub(/\//, ".", s); return s }
     gsub(/\//, "::", s)
     return crate (s == "" ? "" : "::" s)
@@ -25,9 +25,9 @@ function inner(file,   s) {
 
 function last(s) { sub(/^.*::/, "", s); return s }
 
-# Rattle·C·specs.specs.F.x and Rattle·C.specs.F.x: C.F.x
+# Rattle.C.specs.F.x and Rattle.C.proofs.F.x: C.F.x
 function where(from) {
-    if (sub(/^Rattle·/, "", from)) { sub(/·(specs|proofs)\./, ".", from); sub(/\.(specs|proofs)\./, ".", from) }
+    if (sub(/^Rattle\./, "", from)) sub(/\.(specs|proofs)\./, ".", from)
     return from
 }
 
@@ -40,7 +40,7 @@ function cited(file, text,   w, n, i, s) {
         if (w[i] == "" || (w[i] in seen)) continue
         seen[w[i]] = 1
         if ((file, w[i]) in source) s = s w[i] "=" source[file, w[i]] " "
-        else if ((file, "_" w[i] "_") in source) s = s w[i] "=" source[file, "_" w[i] "_"] " "
+        else if ((file, "◌" w[i] "◌") in source) s = s w[i] "=" source[file, "◌" w[i] "◌"] " "
     }
     return s
 }

@@ -40,7 +40,7 @@ function collect(rest,   brace, before) {
     text = text before
     if (brace == "}") { text = text brace; if (--clause == 0 && item != "fn") done(); return rest }
     if (brace == ";") { if (clause == 0) done(); else text = text brace; return rest }
-    if (clause || item != "fn" || text ~ /(requires|ensures|decreases|invariant)[ \t]*$/) { clause++; text = text brace; return rest }
+    if (clause || item != "fn" || text ~ /(requires|ensures|decreases|invariant|ghost)\*?([ \t]+[a-z_0-9]+)?[ \t]*$/) { clause++; text = text brace; return rest }
     body = 1
     done()
     return rest

@@ -11,12 +11,12 @@ FILENAME == "declarations" {
     next
 }
 FILENAME == "functions" {
-    if (match($6, /(requires|ensures)\{/)) clauses[$1] = clauses[$1] " " substr($6, RSTART)
+    if (match($6, /(requires|ensures)\*?( [a-z_0-9]+)?\{/)) clauses[$1] = clauses[$1] " " substr($6, RSTART)
     if ($5) { i = ++items; item[i] = $1; item_at[i] = $2; item_name[i] = $3; item_kind[i] = $4; item_text[i] = $6 }
     if ($5 && $4 == "fn") said[crate_of($1)] = said[crate_of($1)] " " $6
     next
 }
-FILENAME == "words" { word[$1, $2] = 1; if ($1 ~ /\/Proof\.antt$/) proof_word[++proof_words] = $1 SUBSEP $2; next }
+FILENAME == "words" { word[$1, $2] = 1; if ($1 ~ /\/proofs\/.*\/[^\/]*\.antt$/) proof_word[++proof_words] = $1 SUBSEP $2; next }
 FILENAME == "paths" && $4 == "mod" {
     modules[module_of($1) "::" $3] = 1
     if ($5) { i = ++items; item[i] = $1; item_at[i] = $2; item_name[i] = $3; item_kind[i] = "mod" }
@@ -36,9 +36,9 @@ END {
 
 function crate_of(f,   w) { split(f, w, "/"); return w[2] }
 
-# Rattle·C·specs.specs.F.x and Rattle·C.specs.F.x: C.F.x
+# Rattle.C.specs.F.x and Rattle.C.proofs.F.x: C.F.x
 function where(from) {
-    if (sub(/^Rattle·/, "", from)) { sub(/·(specs|proofs)\./, ".", from); sub(/\.(specs|proofs)\./, ".", from) }
+    if (sub(/^Rattle\./, "", from)) sub(/\.(specs|proofs)\./, ".", from)
     return from
 }
 
@@ -74,7 +74,7 @@ function cite_text(f, s, by,   w, n, i) {
 # Word t of file f, in declaration `by` (0: in a proof or a contract).
 function cite(f, t, by,   i) {
     i = found(f, t)
-    if (!i) i = found(f, "_" t "_")
+    if (!i) i = found(f, "◌" t "◌")
     if (!i && match(t, /^[^.]+\./) && (f, substr(t, 1, RLENGTH)) in source) i = place[source[f, substr(t, 1, RLENGTH)] "." substr(t, RLENGTH + 1)]
     if (!i || i == by) return
     citers[i] = 1
@@ -114,8 +114,8 @@ function clause_words(f, s,   w, n, i) {
 # A name with places for arguments is used if it stands so, or all parts between the places do.
 function used(f, t,   w, n, i) {
     if ((f, t) in word) return 1
-    if (t !~ /_/) return 0
-    n = split(t, w, "_")
+    if (t !~ /◌/) return 0
+    n = split(t, w, "◌")
     for (i = 1; i <= n; i++) if (w[i] != "" && !((f, w[i]) in word)) return 0
     return 1
 }
@@ -126,7 +126,7 @@ function unused_items(   i, t, full, how) {
     for (i = 1; i <= paths; i++) take_path(path_file[i], path[i])
     for (i = 1; i <= imports; i++) {
         if (import[i, 4] ~ /::/) name_path(import[i, 1], whole(import[i, 1], import[i, 4]))
-        else if (match(import[i, 4], /^Rattle·[^.·]+.*\.declared\./)) name_path(import[i, 1], declared(import[i, 4]))
+        else if (match(import[i, 4], /^Rattle\.[^.]+.*\.declared\./)) name_path(import[i, 1], declared(import[i, 4]))
     }
     for (i = 1; i <= items; i++) {
         full = module_of(item[i]) "::" item_name[i]
@@ -168,9 +168,9 @@ function name_path(f, p,   c) {
     }
 }
 
-# Rattle·C.specs.declared.m.S.S: C::m::S
+# Rattle.C.specs.declared.m.S.S: C::m::S
 function declared(from,   c, n, w) {
-    c = from; sub(/^Rattle·/, "", c); sub(/[.·].*$/, "", c)
+    c = from; sub(/^Rattle\./, "", c); sub(/\..*$/, "", c)
     sub(/^.*\.declared\./, "", from)
     n = split(from, w, ".")
     return c "::" (n > 2 ? w[1] "::" : "") w[n]
