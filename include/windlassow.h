@@ -15,8 +15,8 @@
  *   later, also by another process on the same kind of machine.
  *
  * Stack
- *   No call takes more than WINDLASSOW_STACK_BYTES of stack. Some 11 KB were seen to be taken; the
- *   number leaves room for other versions and compilers.
+ *   No call takes more than WINDLASSOW_STACK_BYTES of stack. Some 11 KB were seen to be taken, with an
+ *   older kit; the number leaves room for other versions and compilers.
  *
  * Answers
  *   If several refusals apply, the one of the lowest number is given, except that 13 comes between 5
