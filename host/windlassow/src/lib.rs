@@ -79,8 +79,8 @@ pub const MAX_RUN_LEN: usize = 4_096;
 /// [`Refusal::InputTooLong`]. No run has a stream of more than 34,816 bytes.
 pub const MAX_STREAM_LEN: usize = 65_536;
 
-/// The bytes of stack that no call takes more of. Some 11 KB were seen to be taken; the number leaves room for other
-/// versions and compilers.
+/// The bytes of stack that no call takes more of. Some 11 KB were seen to be taken, with an older kit; the number leaves
+/// room for other versions and compilers.
 pub const STACK_BYTES: usize = 80 * 1024;
 
 /// The README's example is compiled and run.
