@@ -39,8 +39,7 @@ need_room() {
     export TMPDIR=$room
 }
 
-# Runs a command in a process group of its own, so that all that it starts can be ended: rt's provers run in the background and
-# take no notice of Ctrl-C.
+# Runs a command in a process group of its own, so that all that it starts can be ended, whatever signal this script is told to end by.
 in_group() {
     local status
     need_room
