@@ -10,7 +10,17 @@ declared_line() { # FILE NAME
 
 # The line of FILE that starts the function NAME, or nothing.
 function_line() { # FILE NAME
-    grep -nE -m 1 "^ *(pub )?(extern \"C\" )?fn $2\b" "$1" | cut -d : -f 1
+    grep -nE -m 1 "^(pub )?(const )?(extern \"C\" )?fn $2\b" "$1" | cut -d : -f 1
+}
+
+# The line of FILE that starts the method TYPE::NAME, in the first `impl` of the type that has it, or in a trait of that name; or nothing.
+method_line() { # FILE TYPE::NAME
+    awk -v type="${2%%::*}" -v start="fn ${2##*::}" '
+        /^impl|^(pub )?trait / {
+            line = $0; sub(/^impl(<[^>]*>)? |^(pub )?trait /, "", line); sub(/^.* for /, "", line)
+            own = (line " ") ~ "^([a-z_0-9]+::)*" type "[^A-Za-z0-9_]" }
+        /^}/ { own = 0 }
+        own && (at = index($0, start)) && substr($0, at + length(start)) !~ /^[A-Za-z0-9_]/ { print NR; exit }' "$1"
 }
 
 # The line of FILE that starts the test NAME, a function marked as one, or nothing.
@@ -48,7 +58,13 @@ place_of() {
     samples/* | crates/*) whole_file "$1" ;;
     *::*)
         first=${1%%::*} rest=${1#*::} name=${1##*::} file=lib
-        case $rest in *::*) file=${rest%%::*} ;; esac
+        case $rest in
+        [A-Z]*::*)
+            first_in method_line "$rest" "crates/$first/src/"*.rt
+            return
+            ;;
+        *::*) file=${rest%%::*} ;;
+        esac
         first_in function_line "$name" "crates/$first/src/$file.rt"
         ;;
     *:*:*)
@@ -67,8 +83,12 @@ place_of() {
     esac
 }
 
-# column_of NAME: the cell of a row in which a name of docs/TRACE.md belongs, 2 to 5: a definition of document 01; a contract, a law, a statement of
-# `claims` or `compositions` or what contracts need beside the definitions; a must-fail edit; a test. Fails if the name is not there.
+# The files of specs/ that have what contracts need beside the definitions: `Calls.antt`, what stands under `Calls/`, and the files that say what a type of
+# the code stands for.
+beside='^crates/[^/]*/specs/(Calls/.*|(Calls|Allowed|Choices|Formats|Good|Planes|Readers|Refusals?|Replies|Stages|Streams|Writers)\.antt)'
+
+# column_of NAME: the cell of a row in which a name of docs/TRACE.md belongs, 2 to 5: a definition; a contract, a law, a statement of `claims` or
+# `compositions` or what contracts need beside the definitions; a must-fail edit; a test. Fails if the name is not there.
 column_of() {
     local place
     place=$(place_of "$1") || return 1
@@ -77,8 +97,8 @@ column_of() {
     */*) echo 4 ;;
     *)
         case $place in
-        crates/claims/* | crates/compositions/* | crates/*/specs/Calls.antt:* | crates/*/specs/Calls/*) echo 3 ;;
-        crates/*/specs/*) echo 2 ;;
+        crates/claims/* | crates/compositions/*) echo 3 ;;
+        crates/*/specs/*) if [[ $place =~ $beside ]]; then echo 3; else echo 2; fi ;;
         *) echo 3 ;;
         esac
         ;;

@@ -1,5 +1,5 @@
 # Declarations of .antt files (with text.awk): for each a line of FILE, LINE, NAME, KIND, PUB, WHAT IT SAYS, THE REST, apart by tabs.
-# KIND is record, data, abbrev, unfoldable or law (a declaration that does not unfold). What a law says is its type with the
+# KIND is record, data, ruleset, abbrev, unfoldable or law (a declaration that does not unfold). What a law says is its type with the
 # parameters of the modules around it, and the rest is its proof; any other declaration says all of its text.
 FNR == 1 { file_done(); file = FILENAME }
 { line = antt_code($0); if (line ~ /[^ \t]/) take(line) }
@@ -37,10 +37,10 @@ function start(line,   w, n, i, mods, pub) {
     n = split(line, w, " ")
     for (i = 1; w[i] ~ /^(pub|abbrev|unfoldable|opaque|private)$/; i++) if (w[i] == "pub") pub = 1; else mods = mods w[i] " "
     if (w[i] ~ /^[\])}]/) { more(line); return }
-    if (w[i] ~ /^(use|mod|open|import)$/) { current = 0; return }
+    if (w[i] ~ /^(use|mod|open|import|infix|infixl|infixr)$/) { current = 0; return }
     if (w[i] == "module") { scope(line); heading = !ends_head(line); return }
     if (w[i] == "mutual") { scope(""); around[depth] = mods; return }
-    if (w[i] == "record" || w[i] == "data") { declare(w[i + 1], w[i], pub, line); return }
+    if (w[i] ~ /^(record|data|ruleset)$/) { declare(w[i + 1], w[i], pub, line); return }
     if (is_signature(line, w[i])) { declare(w[i], unfolds(inherited() mods), pub, line); return }
     if (w[i] in known) current = known[w[i]]
     saying = 0

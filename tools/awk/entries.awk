@@ -2,22 +2,23 @@
 # Reads imports, declarations (twice: with names=1 for their names alone), functions and proof files, each from a file named so.
 BEGIN { FS = OFS = "\t"; n = split(crates, list, " "); for (i = 1; i <= n; i++) open[list[i]] = 1 }
 FILENAME ~ /imports$/ { source[$1, $3] = where($4); next }
+$4 == "lemma" { next }
 { split($1, path, "/"); crate = path[2]; module = inner($1) }
 names { source[$1, $3] = crate "." module "." $3; next }
 FILENAME ~ /proofs$/ { print "proof", crate, module, last(module), 0, $2, $3, ""; next }
 FILENAME ~ /functions$/ {
-    section = $4 == "fn" ? "contract" : "type"
+    section = $4 ~ /^(fn|ghost)$/ ? "contract" : "type"
     print section, crate, module "::" $3, $3, (crate in open) && module == crate && ($5 || $3 == "main"), $6, $7, cited($1, $6)
     next
 }
 { print (path[3] == "specs" ? "definition" : "law"), crate, crate "." module "." $3, $3, 0, $6, $7, cited($1, $6) }
 
-# crates/C/specs/F.antt: F; crates/C/proofs/a/b/Proof.antt: C::a::b, and C::a::b::Answers of another file there; crates/C/src/m.rt: C::m, and C for lib and main
+# crates/C/specs/F.antt: F; crates/C/proofs/a/b/Answers.antt: C::a::b, and C::a::b::Invariants of another file there; crates/C/src/m.rt: C::m, and C for lib and main
 function inner(file,   s) {
     s = file
     sub(/^crates\/[^\/]*\/[^\/]*\//, "", s)
     if (s ~ /\.rt$/) { sub(/\.rt$/, "", s); s = s ~ /^(lib|main)$/ ? "" : s }
-    else if (s ~ /\// && file ~ /\/proofs\//) { if (!sub(/\/Proof\.antt$/, "", s)) sub(/\.antt$/, "", s) }
+    else if (s ~ /\// && file ~ /\/proofs\//) { if (!sub(/\/Answers\.antt$/, "", s)) sub(/\.antt$/, "", s) }
     else { sub(/\.antt$/, "", s); gsub(/\//, ".", s); return s }
     gsub(/\//, "::", s)
     return crate (s == "" ? "" : "::" s)

@@ -1,11 +1,12 @@
-# Names that .antt and .rt files import (with text.awk): for each a line of FILE, LINE, the NAME in the file, and WHERE it is from,
-# apart by tabs. A module imported `as` a name has a dot after it. The names in braces may stand on lines of their own.
+# Names that .antt and .rt files import (with text.awk): for each a line of FILE, LINE, the NAME in the file, WHERE it is from, and PUB, 1 if
+# the file passes it on, apart by tabs. A module imported `as` a name has a dot after it. The names in braces may stand on lines of their own.
 FNR == 1 { inside = 0; path = "" }
 { line = FILENAME ~ /\.rt$/ ? rt_code($0) : antt_code($0) }
 path != "" { list(line); next }
 line ~ /^[ \t]*(pub )?(ghost )?use / { imports(line) }
 
 function imports(s,   open) {
+    pub = s ~ /^[ \t]*pub /
     sub(/^[ \t]*(pub )?(ghost )?use /, "", s)
     sub(/[ ;\t]*$/, "", s)
     if (!(open = index(s, "{"))) { whole(s); return }
@@ -35,4 +36,4 @@ function whole(s,   w, n, last) {
     say(last (index(w[1], "::") ? "" : "."), w[1])
 }
 
-function say(named, from) { printf "%s\t%d\t%s\t%s\n", FILENAME, FNR, named, from }
+function say(named, from) { printf "%s\t%d\t%s\t%s\t%d\n", FILENAME, FNR, named, from, pub }

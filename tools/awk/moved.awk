@@ -15,9 +15,12 @@ END { pair("key"); pair("place"); pair("renamed"); judge(); report() }
 function sign(how, s, i) {
     if (how == "key") return pool[s, i] SUBSEP key[s, i]
     if (how == "place") return pool[s, i] SUBSEP name[s, i] SUBSEP says[s, i]
-    if (pool[s, i] == "proof" || (pool[s, i] == "contract" && says[s, i] !~ /(requires|ensures)\{/)) return ""
-    return pool[s, i] SUBSEP without(says[s, i], name[s, i])
+    if (pool[s, i] == "proof" || (pool[s, i] == "contract" && says[s, i] !~ /(requires|ensures)\*?( [A-Za-z_0-9]+)?\{/)) return ""
+    return pool[s, i] SUBSEP without(says[s, i], last_part(name[s, i]))
 }
+
+# `Type::method` stands as `method` in its text.
+function last_part(s) { sub(/^.*::/, "", s); return s }
 
 # A text with every occurrence of a name as a whole word replaced.
 function without(text, word,   w, n, i, t) {
