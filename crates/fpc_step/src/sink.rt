@@ -1,7 +1,7 @@
 // Bytes written to a lent slice.
 ghost use Rattle.std.specs.Prelude.{◌≡◌, ◌+◌, ◌^◌, ◌<◌, ◌≤◌, length, slice_set};
 
-use crate::CodedDouble;
+use crate::{CodedDouble, slices};
 use fpc_stream::code::remaining_count;
 
 /// Bytes written to a lent slice one after the other. What has no room is left out, and the place
@@ -10,16 +10,6 @@ use fpc_stream::code::remaining_count;
 pub struct Sink<'a> {
     pub out: &'a mut [u8],
     pub at: usize,
-}
-
-// The byte b at place `at`; nothing past the room.
-#[inline]
-fn put_at(out: &mut [u8], at: usize, b: u8)
-    ensures { out.new ≡ slice_set out.old at b }
-{
-    if at < out.len() {
-        out[at] = b;
-    }
 }
 
 impl Sink<'_> {
@@ -33,7 +23,7 @@ impl Sink<'_> {
         ensures moved { self.new.at ≡ self.old.at + 1 }
         ensures put { self.new.out.now ≡ slice_set self.old.out.now self.old.at b }
     {
-        put_at(self.out, self.at, b);
+        slices::put(self.out, self.at, b);
         self.at += 1;
     }
 
@@ -47,7 +37,7 @@ impl Sink<'_> {
     {
         let mut at = self.at;
         for &b in bytes {
-            put_at(self.out, at, b);
+            slices::put(self.out, at, b);
             at += 1;
         }
         self.at = at;

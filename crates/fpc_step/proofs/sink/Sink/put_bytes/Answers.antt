@@ -6,4 +6,4 @@ pub loop-b-preserved : goal.loop-b-preserved
 loop-b-preserved c =
     let l = c.loop-b in
     let a = c.args in
-    (l.invariant.0, rw c.put_at.ensures (put_one a.self.now.out.now a.bytes.now a.self.now.at l.b-index l.at l.self.out.now c.loop-b-test.true l.invariant.1))
+    (l.invariant.0, rw c.put.ensures (put_one a.self.now.out.now a.bytes.now a.self.now.at l.b-index l.at l.self.out.now c.loop-b-test.true l.invariant.1))

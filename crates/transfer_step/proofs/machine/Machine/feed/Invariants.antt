@@ -9,4 +9,4 @@ abbrev pub invariant-loop-b : goal.invariant-loop-b
 invariant-loop-b l =
     let size = length l.fn.predictors.fcm.now in
     IsSame l.fn.predictors l.predictors
-    × Feeding (machine_of size l.fn.self (predictors_of l.fn.predictors)) l.piece l.fn.doubles (machine_of size l.self (predictors_of l.predictors)) l.doubles l.next l.b-index
+    × Feeding (machine_of size l.fn.self (predictors_of l.fn.predictors)) l.piece l.fn.doubles (machine_of size l.machine (predictors_of l.predictors)) l.doubles l.given l.b-index
